@@ -1,3 +1,5 @@
 pub mod Refusals
 pub mod Geometries
 pub mod ProtocolKinds
+pub mod BlockWords
+pub mod Parties

@@ -9,10 +9,23 @@ impl Geometry {
     pub fn new(caches: u8, sets: u8, ways: u8, blocks: u16) -> Result<Geometry, Refusal>
         ensures { λ r. ⌜ outcome sizes r ≡ judgedSizes caches sets ways blocks ⌝ }
     {
-        if caches < 1 || caches > 8 || sets < 1 || sets > 16 || ways < 1 || ways > 4 || blocks < 1 || blocks > 1024 {
+        if caches < 1
+            || caches > 8
+            || sets < 1
+            || sets > 16
+            || ways < 1
+            || ways > 4
+            || blocks < 1
+            || blocks > 1024
+        {
             return Err(Refusal::OutOfBounds);
         }
-        Ok(Geometry { caches, sets, ways, blocks })
+        Ok(Geometry {
+            caches,
+            sets,
+            ways,
+            blocks,
+        })
     }
 
     pub fn caches(&self) -> u8
