@@ -1,7 +1,9 @@
 -- Refusals: the number of each, and what it means.
+use mathlib.Core.Bool.{cond}
 use mathlib.Core.List.{List}
 use Prim.Native.Nat.{ℕ}
 use lib.Chars.{codes}
+use lib.Dec.{ltb}
 use Rattle.std.specs.declared.result.Result.{Result}
 use Rattle.std.specs.declared.result.Result.the-variants.{Ok, Err}
 use Rattle.bedrock.specs.declared.refusal.Refusal.{Refusal}
@@ -47,3 +49,7 @@ meaning BufferTooShort = codes "buffer too short"
 abbrev pub outcome : {A B : Type 0} → (A → B) → Result A Refusal → Result B ℕ
 outcome f (Ok x) = Ok (f x)
 outcome f (Err e) = Err (number e)
+
+-- A code below k stands; any other is refused with 7.
+abbrev pub codeBelow : ℕ → ℕ → Result ℕ ℕ
+codeBelow k n = cond (ltb n k) (Ok n) (Err 7)

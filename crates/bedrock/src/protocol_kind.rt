@@ -1,6 +1,6 @@
 ghost use mathlib.Core.Path.{_≡_};
-ghost use Rattle.bedrock.specs.Refusals.{outcome};
-ghost use Rattle.bedrock.specs.ProtocolKinds.{codeOf, nameOf, kindOf};
+ghost use Rattle.bedrock.specs.Refusals.{outcome, codeBelow};
+ghost use Rattle.bedrock.specs.ProtocolKinds.{codeOf, nameOf};
 use crate::refusal::Refusal;
 
 // The eight BedRock protocols, by the states that they use.
@@ -19,7 +19,7 @@ pub enum ProtocolKind {
 impl ProtocolKind {
     // The protocol of a code from 0 to 7.
     pub fn from_code(code: u8) -> Result<ProtocolKind, Refusal>
-        ensures { λ r. ⌜ outcome (λ kind. kind) r ≡ kindOf code ⌝ }
+        ensures { λ r. ⌜ outcome codeOf r ≡ codeBelow 8 code ⌝ }
     {
         match code {
             0 => Ok(ProtocolKind::Mi),

@@ -1,0 +1,9 @@
+pub mod Kinds
+pub mod Bytes
+pub mod Heads
+pub mod Records
+pub mod Format
+pub mod Splits
+pub mod Checks
+pub mod Reads
+pub mod Readings
