@@ -1,2 +1,3 @@
 mod Judging
-mod Fronts
+pub mod Fronts
+pub mod Readings

@@ -14,10 +14,16 @@ abbrev pub after : Item → Reading → Reading
 after x (through xs) = through (x ∷ xs)
 after x (stopped xs n) = stopped (x ∷ xs) n
 
+-- by what stands at the front, where `reads` tells of the rest
+abbrev pub next : (List ℕ → Reading) → Front → Reading
+next reads ends = through []
+next reads (holds x rest) = after x (reads rest)
+next reads (refuses n) = stopped [] n
+
 -- Record by record, at most n. No record is shorter than its letter, so as many as there are bytes are all.
 unfoldable pub readingBy : ℕ → List ℕ → Reading
 readingBy zero bs = through []
-readingBy (suc n) bs = elim (front bs) [ ends ↦ through [] | holds x rest ↦ after x (readingBy n rest) | refuses k ↦ stopped [] k ]
+readingBy (suc n) bs = next (readingBy n) (front bs)
 
 unfoldable pub reading : List ℕ → Reading
 reading bs = readingBy (length bs) bs

@@ -1,0 +1,7 @@
+mod Numbers
+mod Pastes
+mod Ends
+mod ReadBack
+mod WriteBack
+mod RoundTrips
+mod Holding
