@@ -1,7 +1,8 @@
 -- The eight protocols: the code and the name of each.
-use mathlib.Core.List.{List}
+use mathlib.Core.List.{List, [], _∷_}
 use Prim.Native.Nat.{ℕ}
 use lib.Chars.{codes}
+use lib.ListN.{getD}
 use Rattle.bedrock.specs.declared.protocol_kind.ProtocolKind.{ProtocolKind}
 use Rattle.bedrock.specs.declared.protocol_kind.ProtocolKind.the-variants.{Mi, Msi, Mesi, Mesif, Mosi, Mosif, Moesi, Moesif}
 
@@ -15,12 +16,6 @@ codeOf Mosif = 5
 codeOf Moesi = 6
 codeOf Moesif = 7
 
-abbrev pub nameOf : ProtocolKind → List ℕ
-nameOf Mi = codes "MI"
-nameOf Msi = codes "MSI"
-nameOf Mesi = codes "MESI"
-nameOf Mesif = codes "MESIF"
-nameOf Mosi = codes "MOSI"
-nameOf Mosif = codes "MOSIF"
-nameOf Moesi = codes "MOESI"
-nameOf Moesif = codes "MOESIF"
+-- the name of the protocol with a code
+abbrev pub nameOf : ℕ → List ℕ
+nameOf n = getD (codes "MI" ∷ codes "MSI" ∷ codes "MESI" ∷ codes "MESIF" ∷ codes "MOSI" ∷ codes "MOSIF" ∷ codes "MOESI" ∷ codes "MOESIF" ∷ []) n []

@@ -1,9 +1,10 @@
 -- Refusals: the number of each, and what it means.
 use mathlib.Core.Bool.{cond}
-use mathlib.Core.List.{List}
+use mathlib.Core.List.{List, [], _∷_}
 use Prim.Native.Nat.{ℕ}
 use lib.Chars.{codes}
 use lib.Dec.{ltb}
+use lib.ListN.{getD}
 use Rattle.std.specs.declared.result.Result.{Result}
 use Rattle.std.specs.declared.result.Result.the-variants.{Ok, Err}
 use Rattle.bedrock.specs.declared.refusal.Refusal.{Refusal}
@@ -27,23 +28,27 @@ number NoRoom = 14
 number LateContent = 15
 number BufferTooShort = 16
 
-abbrev pub meaning : Refusal → List ℕ
-meaning NoSuchCache = codes "no such cache"
-meaning NoSuchBlock = codes "no such block"
-meaning NoSuchWord = codes "no such word"
-meaning NoSuchChannel = codes "no such channel"
-meaning SheetTooLong = codes "sheet over 32768 bytes"
-meaning BadHead = codes "head short, or of another mark or version"
-meaning OutOfBounds = codes "head code or length out of bounds"
-meaning UnknownLetter = codes "unknown letter"
-meaning CutShort = codes "record cut short"
-meaning NoSuchSetOrWay = codes "no such set or way"
-meaning CacheWaits = codes "cache waits"
-meaning ChannelEmpty = codes "channel empty"
-meaning SetBusy = codes "set has answers pending"
-meaning NoRoom = codes "no room on a channel"
-meaning LateContent = codes "content after another record"
-meaning BufferTooShort = codes "buffer too short"
+-- what each number means
+abbrev pub meaningOf : ℕ → List ℕ
+meaningOf n = getD
+    ( codes ""
+    ∷ codes "no such cache"
+    ∷ codes "no such block"
+    ∷ codes "no such word"
+    ∷ codes "no such channel"
+    ∷ codes "sheet over 32768 bytes"
+    ∷ codes "head short, or of another mark or version"
+    ∷ codes "head code or length out of bounds"
+    ∷ codes "unknown letter"
+    ∷ codes "record cut short"
+    ∷ codes "no such set or way"
+    ∷ codes "cache waits"
+    ∷ codes "channel empty"
+    ∷ codes "set has answers pending"
+    ∷ codes "no room on a channel"
+    ∷ codes "content after another record"
+    ∷ codes "buffer too short"
+    ∷ []) n []
 
 -- An answer by what it means: the value as f reads it, or the refusal's number.
 abbrev pub outcome : {A B : Type 0} → (A → B) → Result A Refusal → Result B ℕ

@@ -50,7 +50,7 @@ impl ProtocolKind {
     }
 
     pub fn name(self) -> &'static str
-        ensures { λ r. ⌜ now r ≡ nameOf self ⌝ }
+        ensures { λ r. ⌜ now r ≡ nameOf (codeOf self) ⌝ }
     {
         match self {
             ProtocolKind::Mi => "MI",

@@ -1,5 +1,5 @@
 ghost use mathlib.Core.Path.{_≡_};
-ghost use Rattle.bedrock.specs.Refusals.{number, meaning};
+ghost use Rattle.bedrock.specs.Refusals.{number, meaningOf};
 
 // Why a call is refused. Numbers 1 to 10 are bad input, 11 to 16 a bad moment.
 #[derive(Clone, Copy, Debug, PartialEq, Eq)]
@@ -49,7 +49,7 @@ impl Refusal {
 
     // The refusal in words.
     pub fn meaning(self) -> &'static str
-        ensures { λ r. ⌜ now r ≡ meaning self ⌝ }
+        ensures { λ r. ⌜ now r ≡ meaningOf (number self) ⌝ }
     {
         match self {
             Refusal::NoSuchCache => "no such cache",

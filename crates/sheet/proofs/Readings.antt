@@ -4,8 +4,11 @@ use mathlib.Core.List.{List, [], _∷_}
 use Prim.Native.Nat.{ℕ, zero, suc, _≤_, _<_}
 use native.Mathlib.Omega.{arith}
 use lib.ListN.{length}
+use Rattle.std.specs.declared.option.Option.the-variants.{Some, None}
+use Rattle.std.specs.declared.result.Result.the-variants.{Ok, Err}
 use Rattle.sheet.specs.Records.{Item}
 use Rattle.sheet.specs.Format.{Front, ends, holds, refuses, front}
+use Rattle.sheet.specs.Reads.{answerAt, leftAt}
 use Rattle.sheet.specs.Readings.{Reading, through, stopped, after, next, readingBy, reading}
 use Rattle.sheet.proofs.Fronts.{front-shorter}
 
@@ -56,3 +59,30 @@ reading-none bs e = none-at (front bs) (sym (reading-step bs) ∙ e)
 
 pub reading-more : (bs : List ℕ) (x : Item) (xs : List Item) → reading bs ≡ through (x ∷ xs) → (zs : List ℕ) × (front bs ≡ holds x zs) × (reading zs ≡ through xs)
 reading-more bs x xs e = more-at (front bs) x xs (sym (reading-step bs) ∙ e)
+
+-- what a reader's answer tells of the bytes that it had left
+record-at : (f : Front) (bs zs : List ℕ) (x : Item) → Ok (Some x) ≡ answerAt f → zs ≡ leftAt f bs → f ≡ holds x zs
+record-at ends bs zs x a g = let z : _≡_ {A = ℕ} 0 1 = cc in absurd (omega arith)
+record-at (holds y ws) bs zs x a g = cc
+record-at (refuses n) bs zs x a g = let z : _≡_ {A = ℕ} 0 1 = cc in absurd (omega arith)
+
+end-at : (f : Front) → Ok None ≡ answerAt f → f ≡ ends
+end-at ends a = refl
+end-at (holds y ws) a = let z : _≡_ {A = ℕ} 0 1 = cc in absurd (omega arith)
+end-at (refuses n) a = let z : _≡_ {A = ℕ} 0 1 = cc in absurd (omega arith)
+
+refusal-at : (f : Front) (n : ℕ) → Err n ≡ answerAt f → f ≡ refuses n
+refusal-at ends n a = let z : _≡_ {A = ℕ} 0 1 = cc in absurd (omega arith)
+refusal-at (holds y ws) n a = let z : _≡_ {A = ℕ} 0 1 = cc in absurd (omega arith)
+refusal-at (refuses m) n a = cc
+
+pub drew-record : (bs zs : List ℕ) (x : Item) → Ok (Some x) ≡ answerAt (front bs) → zs ≡ leftAt (front bs) bs → (reading bs ≡ after x (reading zs)) × (length zs < length bs)
+drew-record bs zs x a g =
+    let e = record-at (front bs) bs zs x a g in
+    (reading-step bs ∙ ap (next reading) e, front-shorter bs x zs e)
+
+pub drew-none : (bs : List ℕ) → Ok None ≡ answerAt (front bs) → reading bs ≡ through []
+drew-none bs a = reading-step bs ∙ ap (next reading) (end-at (front bs) a)
+
+pub drew-refusal : (bs : List ℕ) (n : ℕ) → Err n ≡ answerAt (front bs) → reading bs ≡ stopped [] n
+drew-refusal bs n a = reading-step bs ∙ ap (next reading) (refusal-at (front bs) n a)

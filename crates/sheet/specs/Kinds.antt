@@ -1,7 +1,8 @@
--- The kinds of channel and memory that a head can name: the code and the name of each.
-use mathlib.Core.List.{List}
+-- The kinds of channel and memory that a head can name: the code of each, and the name of each code.
+use mathlib.Core.List.{List, [], _∷_}
 use Prim.Native.Nat.{ℕ}
 use lib.Chars.{codes}
+use lib.ListN.{getD}
 use Rattle.sheet.specs.declared.kinds.ChannelKind.{ChannelKind}
 use Rattle.sheet.specs.declared.kinds.ChannelKind.the-variants.{Unordered, Paired, SingleFile}
 use Rattle.sheet.specs.declared.kinds.MemoryKind.{MemoryKind}
@@ -12,15 +13,12 @@ channelCode Unordered = 0
 channelCode Paired = 1
 channelCode SingleFile = 2
 
-abbrev pub channelName : ChannelKind → List ℕ
-channelName Unordered = codes "unordered"
-channelName Paired = codes "paired"
-channelName SingleFile = codes "single file"
+abbrev pub channelName : ℕ → List ℕ
+channelName n = getD (codes "unordered" ∷ codes "paired" ∷ codes "single file" ∷ []) n []
 
 abbrev pub memoryCode : MemoryKind → ℕ
 memoryCode Words = 0
 memoryCode Image = 1
 
-abbrev pub memoryName : MemoryKind → List ℕ
-memoryName Words = codes "words"
-memoryName Image = codes "image"
+abbrev pub memoryName : ℕ → List ℕ
+memoryName n = getD (codes "words" ∷ codes "image" ∷ []) n []

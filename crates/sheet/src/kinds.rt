@@ -35,7 +35,7 @@ impl ChannelKind {
     }
 
     pub fn name(self) -> &'static str
-        ensures { λ r. ⌜ now r ≡ channelName self ⌝ }
+        ensures { λ r. ⌜ now r ≡ channelName (channelCode self) ⌝ }
     {
         match self {
             ChannelKind::Unordered => "unordered",
@@ -74,7 +74,7 @@ impl MemoryKind {
     }
 
     pub fn name(self) -> &'static str
-        ensures { λ r. ⌜ now r ≡ memoryName self ⌝ }
+        ensures { λ r. ⌜ now r ≡ memoryName (memoryCode self) ⌝ }
     {
         match self {
             MemoryKind::Words => "words",
