@@ -1,5 +1,4 @@
 pub mod Refusals
 pub mod Geometries
-pub mod ProtocolKinds
 pub mod BlockWords
 pub mod Parties

@@ -31,7 +31,7 @@ number BufferTooShort = 16
 -- what each number means
 abbrev pub meaningOf : ℕ → List ℕ
 meaningOf n = getD
-    ( codes ""
+    (codes ""
     ∷ codes "no such cache"
     ∷ codes "no such block"
     ∷ codes "no such word"

@@ -3,7 +3,7 @@ ghost use Rattle.bedrock.specs.declared.party.Party.{Party};
 ghost use Rattle.bedrock.specs.Parties.{sameParty};
 
 // Who sends and receives messages.
-#[derive(Clone, Copy, Debug)]
+#[derive(Clone, Copy)]
 pub enum Party {
     Cache(u8),
     Directory,

@@ -26,15 +26,15 @@ module _ (out all : List ℕ) (n : ℕ) (bs : List ℕ) (so-far : out ++ reading
   -- one record more has its line
   pub listed-record : (next zs : List ℕ) (x : Item) → Ok (Some x) ≡ answerAt (front bs) → zs ≡ leftAt (front bs) bs → next ≡ out ++ recordLine n x → next ++ readingLines (n + 1) (reading zs) ≡ all
   listed-record next zs x a g e =
-    ap (λ l. l ++ readingLines (n + 1) (reading zs)) e
-    ∙ append-assoc out (recordLine n x) (readingLines (n + 1) (reading zs))
-    ∙ ap (λ l. out ++ l) (sym (ap (readingLines n) (drew-record bs zs x a g .0) ∙ lines-after n x (reading zs)))
-    ∙ so-far
+      ap (λ l. l ++ readingLines (n + 1) (reading zs)) e
+      ∙ append-assoc out (recordLine n x) (readingLines (n + 1) (reading zs))
+      ∙ ap (λ l. out ++ l) (sym (ap (readingLines n) (drew-record bs zs x a g .0) ∙ lines-after n x (reading zs)))
+      ∙ so-far
 
   pub listed-all : Ok None ≡ answerAt (front bs) → out ≡ all
   listed-all a = sym (append-nil out) ∙ ap (λ r. out ++ readingLines n r) (sym (drew-none bs a)) ∙ so-far
 
   pub listed-refusal : (next : List ℕ) (e : ℕ) → Err e ≡ answerAt (front bs) → next ≡ out ++ refusalLine n e → next ≡ all
   listed-refusal next e a q =
-    let k : n ≡ n + 0 = omega arith in
-    q ∙ ap (λ m. out ++ refusalLine m e) k ∙ ap (λ r. out ++ readingLines n r) (sym (drew-refusal bs e a)) ∙ so-far
+      let k : n ≡ n + 0 = omega arith in
+      q ∙ ap (λ m. out ++ refusalLine m e) k ∙ ap (λ r. out ++ readingLines n r) (sym (drew-refusal bs e a)) ∙ so-far

@@ -7,7 +7,7 @@ use lib.Dec.{eqb, leb, ltb}
 use lib.ListN.{length}
 use Rattle.std.specs.Written.{decimal}
 use Rattle.bedrock.specs.Geometries.{Sizes}
-use Rattle.bedrock.specs.ProtocolKinds.{nameOf}
+use Rattle.protocols.specs.ProtocolKinds.{nameOf}
 use Rattle.bedrock.specs.Refusals.{meaningOf}
 use Rattle.sheet.specs.declared.head.HeadCodes.{HeadCodes}
 use Rattle.sheet.specs.Bytes.{field}

@@ -15,7 +15,11 @@ fn hex_digit(digit: u8) -> u8
     requires { ⌜ digit < 16 ⌝ }
     ensures { λ r. ⌜ r ≡ hexDigit digit ⌝ }
 {
-    if digit < 10 { b'0' + digit } else { b'a' - 10 + digit }
+    if digit < 10 {
+        b'0' + digit
+    } else {
+        b'a' - 10 + digit
+    }
 }
 
 // Printable ASCII, but for the backslash, which begins an escape.

@@ -9,13 +9,13 @@ ghost use Rattle.bedrock.specs.Refusals.{number};
 ghost use Rattle.sheet.specs.Heads.{headCodes};
 ghost use Rattle.sheet.specs.Records.{item};
 ghost use Rattle.listing.specs.Lines.{headLine, kindsText, sizesText, opening, recordLine, refusalLine};
+use crate::details::record_details;
 use bedrock::geometry::Geometry;
 use bedrock::refusal::Refusal;
 use sheet::head::Head;
 use sheet::records::Record;
 use std::alloc::AllocError;
 use std::alloc::Global;
-use crate::details::record_details;
 
 // Protocol, channel kind and memory kind.
 fn kinds_text(heap: Global, head: &Head) -> Result<String, AllocError>
@@ -24,7 +24,10 @@ fn kinds_text(heap: Global, head: &Head) -> Result<String, AllocError>
     let protocol = head.protocol.name();
     let channels = head.channels.name();
     let memory = head.memory.name();
-    format!(heap, "protocol {protocol} channels {channels} memory {memory}")
+    format!(
+        heap,
+        "protocol {protocol} channels {channels} memory {memory}"
+    )
 }
 
 // The geometry, to the end of the line.
@@ -35,7 +38,10 @@ fn sizes_text(heap: Global, geometry: &Geometry) -> Result<String, AllocError>
     let sets = geometry.sets();
     let ways = geometry.ways();
     let blocks = geometry.blocks();
-    format!(heap, " caches {caches} sets {sets} ways {ways} blocks {blocks}\n")
+    format!(
+        heap,
+        " caches {caches} sets {sets} ways {ways} blocks {blocks}\n"
+    )
 }
 
 // The line of a head: protocol, kinds and geometry.
@@ -62,11 +68,25 @@ fn record_opening(heap: Global, place: usize, rec: &Record<'_>) -> Result<String
     ensures { λ r. ⌜ made r (λ s. string-bytes s ≡ decimal place ++ opening (item (now (rec .entry)))) ⌝ }
 {
     match rec {
-        Record::Load { cache, block, word } => format!(heap, "{place} load cache {cache} block {block} word {word}"),
-        Record::Store { cache, block, word, value } => {
-            format!(heap, "{place} store cache {cache} block {block} word {word} value {value}")
+        Record::Load { cache, block, word } => format!(
+            heap,
+            "{place} load cache {cache} block {block} word {word}"
+        ),
+        Record::Store {
+            cache,
+            block,
+            word,
+            value,
+        } => {
+            format!(
+                heap,
+                "{place} store cache {cache} block {block} word {word} value {value}"
+            )
         }
-        Record::Deliver { channel, pick } => format!(heap, "{place} deliver channel {channel} pick {pick}"),
+        Record::Deliver { channel, pick } => format!(
+            heap,
+            "{place} deliver channel {channel} pick {pick}"
+        ),
         Record::MemoryTurn { pick } => format!(heap, "{place} memory turn pick {pick}"),
         Record::Content { block, bytes } => {
             let count = bytes.len() / 16;

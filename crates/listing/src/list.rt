@@ -7,14 +7,14 @@ ghost use Rattle.std.specs.Vec.{made};
 ghost use Rattle.sheet.specs.Readings.{reading};
 ghost use Rattle.sheet.specs.Reads.{left};
 ghost use Rattle.listing.specs.Listings.{listingOf, readingLines};
+use crate::lines::head_line;
+use crate::lines::record_line;
+use crate::lines::refusal_line;
 use sheet::reader::Reader;
 use sheet::sheets::CheckedSheet;
 use sheet::sheets::UncheckedSheet;
 use std::alloc::AllocError;
 use std::alloc::Global;
-use crate::lines::head_line;
-use crate::lines::record_line;
-use crate::lines::refusal_line;
 
 // Adds a line for each record that is left, from number 1 on.
 fn list_records(heap: Global, reader: &mut Reader<'_>, out: &mut Vec<u8>) -> Result<(), AllocError>

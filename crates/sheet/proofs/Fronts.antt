@@ -58,8 +58,8 @@ sized-end : (k n : ℕ) (f : List ℕ → Item) (bs : List ℕ) → Cut bs (size
 sized-end k n f bs =
     cond-both (leb k (length bs)) _ _ (Cut bs)
     (λ t. cond-both (leb n (length (drop k bs))) _ _ (Cut bs)
-        (λ u x zs e. let d = drop-drop n k bs in let m : n ≤ length bs - k = rw length-drop at (leb-true n (length (drop k bs)) u) in (k + n, omega (arith, leb-true k (length bs) t), (cc)))
-        (λ _. no-item bs 9))
+    (λ u x zs e. let d = drop-drop n k bs in let m : n ≤ length bs - k = rw length-drop at (leb-true n (length (drop k bs)) u) in (k + n, omega (arith, leb-true k (length bs) t), (cc)))
+    (λ _. no-item bs 9))
     (λ _. no-item bs 9)
 
 lettered-end : (k : ℕ) (bs : List ℕ) → Cut bs (lettered k bs)
@@ -83,8 +83,8 @@ module _ (xs : List ℕ) (i : ℕ) (x : Item) (zs : List ℕ) (in-xs : i ≤ len
 
   place : (k : ℕ) × (i + k ≤ length xs) × (zs ≡ drop (i + k) xs)
   place = let s = front-end (drop i xs) x zs drawn-front in
-    let m : s .0 ≤ length xs - i = rw length-drop at (s .1) in
-    (s .0, omega (arith, in-xs), s .2 ∙ drop-drop (s .0) i xs)
+      let m : s .0 ≤ length xs - i = rw length-drop at (s .1) in
+      (s .0, omega (arith, in-xs), s .2 ∙ drop-drop (s .0) i xs)
 
   drawn-length : length zs ≡ length xs - (i + place .0)
   drawn-length = ap length (place .2) ∙ length-drop (i + place .0) xs
@@ -94,7 +94,7 @@ module _ (xs : List ℕ) (i : ℕ) (x : Item) (zs : List ℕ) (in-xs : i ≤ len
 
   pub drawn-left : drop (length xs - length zs) xs ≡ zs
   drawn-left =
-    let m : length xs - length zs ≡ i + place .0 = omega (arith, drawn-length, place .1) in rw m (sym (place .2))
+      let m : length xs - length zs ≡ i + place .0 = omega (arith, drawn-length, place .1) in rw m (sym (place .2))
 
 -- an item takes at least its letter
 pub front-shorter : (bs : List ℕ) (x : Item) (zs : List ℕ) → front bs ≡ holds x zs → length zs < length bs

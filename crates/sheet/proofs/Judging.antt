@@ -25,14 +25,14 @@ unbounded h e f s = rw s (sym (cond-false (inBounds h) (Ok h) (Err 7) f))
 module _ (h : HeadCodes) (e : ℕ) where
   pub memory-refused : Err e ≡ codeBelow 2 (h .memory) → Err e ≡ judged h
   memory-refused q =
-    let p = refused-test (ltb (h .memory) 2) (h .memory) e q in
-    let m : (ltb (h .memory) 2 && bounded (sizesIn h)) ≡ false = rw (p .0) refl in
-    unbounded h e (and-right (ltb (h .protocol) 8) _ (and-right (ltb (h .channels) 3) _ m)) (p .1)
+      let p = refused-test (ltb (h .memory) 2) (h .memory) e q in
+      let m : (ltb (h .memory) 2 && bounded (sizesIn h)) ≡ false = rw (p .0) refl in
+      unbounded h e (and-right (ltb (h .protocol) 8) _ (and-right (ltb (h .channels) 3) _ m)) (p .1)
 
   pub sizes-refused : Err e ≡ judgedSizes (h .caches) (h .sets) (h .ways) (h .blocks) → Err e ≡ judged h
   sizes-refused q =
-    let p = refused-test (bounded (sizesIn h)) (sizesIn h) e q in
-    unbounded h e (and-right (ltb (h .protocol) 8) _ (and-right (ltb (h .channels) 3) _ (and-right (ltb (h .memory) 2) _ (p .0)))) (p .1)
+      let p = refused-test (bounded (sizesIn h)) (sizesIn h) e q in
+      unbounded h e (and-right (ltb (h .protocol) 8) _ (and-right (ltb (h .channels) 3) _ (and-right (ltb (h .memory) 2) _ (p .0)))) (p .1)
 
 -- codes are known by their seven numbers
 codes-same : (g h : HeadCodes) → g .protocol ≡ h .protocol → g .channels ≡ h .channels → g .memory ≡ h .memory → g .caches ≡ h .caches → g .sets ≡ h .sets → g .ways ≡ h .ways → g .blocks ≡ h .blocks → g ≡ h

@@ -12,14 +12,19 @@ use Rattle.sheet.specs.Records.{Item, load, store, deliver, turn, content, not
 -- C first block (2), count, count times 16 bytes; N length, text.
 abbrev pub letterL : ℕ
 letterL = 76
+
 abbrev pub letterS : ℕ
 letterS = 83
+
 abbrev pub letterD : ℕ
 letterD = 68
+
 abbrev pub letterM : ℕ
 letterM = 77
+
 abbrev pub letterC : ℕ
 letterC = 67
+
 abbrev pub letterN : ℕ
 letterN = 78
 

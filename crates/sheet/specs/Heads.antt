@@ -8,7 +8,7 @@ use lib.ListN.{length, getD}
 use Rattle.std.specs.declared.result.Result.{Result}
 use Rattle.std.specs.declared.result.Result.the-variants.{Ok, Err}
 use Rattle.bedrock.specs.Geometries.{Sizes, bounded}
-use Rattle.bedrock.specs.ProtocolKinds.{codeOf}
+use Rattle.protocols.specs.ProtocolKinds.{codeOf}
 use Rattle.sheet.specs.declared.head.Head.{Head}
 use Rattle.sheet.specs.declared.head.HeadCodes.{HeadCodes}
 use Rattle.sheet.specs.Bytes.{bytesOf, field}

@@ -6,8 +6,8 @@ use Rattle.sheet.specs.Records.{Item}
 use Rattle.sheet.specs.Format.{Front, ends, holds, refuses, front}
 
 pub data Reading : Type 0 where
-  through : List Item → Reading           -- these records, to the end
-  stopped : List Item → ℕ → Reading       -- these records, and then a refusal
+  through : List Item → Reading  -- these records, to the end
+  stopped : List Item → ℕ → Reading  -- these records, and then a refusal
 
 -- a record, and what follows it
 abbrev pub after : Item → Reading → Reading

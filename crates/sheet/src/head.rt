@@ -1,14 +1,14 @@
 ghost use mathlib.Core.Path.{_≡_};
 ghost use Rattle.bedrock.specs.Refusals.{outcome};
 ghost use Rattle.sheet.specs.Heads.{headCodes, judged};
-use bedrock::geometry::Geometry;
-use bedrock::protocol_kind::ProtocolKind;
-use bedrock::refusal::Refusal;
 use crate::kinds::ChannelKind;
 use crate::kinds::MemoryKind;
+use bedrock::geometry::Geometry;
+use bedrock::refusal::Refusal;
+use protocols::protocol_kind::ProtocolKind;
 
 // What a head says, as the numbers that stand in it; nothing is judged yet.
-#[derive(Clone, Copy, Debug)]
+#[derive(Clone, Copy)]
 pub struct HeadCodes {
     pub protocol: u8,
     pub channels: u8,
@@ -37,7 +37,12 @@ impl HeadCodes {
         let channels = ChannelKind::from_code(self.channels)?;
         let memory = MemoryKind::from_code(self.memory)?;
         let geometry = Geometry::new(self.caches, self.sets, self.ways, self.blocks)?;
-        Ok(Head { protocol, channels, memory, geometry })
+        Ok(Head {
+            protocol,
+            channels,
+            memory,
+            geometry,
+        })
     }
 }
 

@@ -1,8 +1,8 @@
 ghost use mathlib.Core.Path.{_≡_};
 ghost use Rattle.sheet.specs.Format.{front, loadIn, storeIn, deliverIn, turnIn, contentIn, noteIn};
 ghost use Rattle.sheet.specs.Splits.{split};
-use bedrock::refusal::Refusal;
 use crate::records::Record;
+use bedrock::refusal::Refusal;
 
 // What stands at the front of a sheet's bytes: a record with what follows it, or nothing where the sheet ends.
 #[derive(Clone, Copy)]
@@ -19,7 +19,14 @@ fn load<'a>(fields: &'a [u8]) -> Split<'a>
         return Split::Refused(Refusal::CutShort);
     };
     let block = u16::from_le_bytes([*lo, *hi]);
-    Split::Item(Record::Load { cache: *cache, block, word: *word }, rest)
+    Split::Item(
+        Record::Load {
+            cache: *cache,
+            block,
+            word: *word,
+        },
+        rest,
+    )
 }
 
 fn store<'a>(fields: &'a [u8]) -> Split<'a>
@@ -30,7 +37,15 @@ fn store<'a>(fields: &'a [u8]) -> Split<'a>
     };
     let block = u16::from_le_bytes([*lo, *hi]);
     let value = u64::from_le_bytes([*a, *b, *c, *d, *e, *f, *g, *h]);
-    Split::Item(Record::Store { cache: *cache, block, word: *word, value }, rest)
+    Split::Item(
+        Record::Store {
+            cache: *cache,
+            block,
+            word: *word,
+            value,
+        },
+        rest,
+    )
 }
 
 fn deliver<'a>(fields: &'a [u8]) -> Split<'a>
@@ -39,7 +54,13 @@ fn deliver<'a>(fields: &'a [u8]) -> Split<'a>
     let [channel, pick, rest @ ..] = fields else {
         return Split::Refused(Refusal::CutShort);
     };
-    Split::Item(Record::Deliver { channel: *channel, pick: *pick }, rest)
+    Split::Item(
+        Record::Deliver {
+            channel: *channel,
+            pick: *pick,
+        },
+        rest,
+    )
 }
 
 fn memory_turn<'a>(fields: &'a [u8]) -> Split<'a>

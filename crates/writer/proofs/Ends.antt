@@ -27,8 +27,8 @@ pub head-fits : (n : ℕ) (h : HeadCodes) (m : ℕ) → Ok m ≡ headEnd n h →
 head-fits n h m =
     cond-both (inBounds h) _ _ (λ r. Ok m ≡ r → (13 ≤ n) × (m ≡ 13) × (inBounds h ≡ true))
     (λ t. cond-both (ltb n 13) _ _ (λ r. Ok m ≡ r → (13 ≤ n) × (m ≡ 13) × (inBounds h ≡ true))
-        (λ _ q. let z : _≡_ {A = ℕ} 0 1 = cc in absurd (omega arith))
-        (λ f q. (ltb-false n 13 f, (cc), t)))
+    (λ _ q. let z : _≡_ {A = ℕ} 0 1 = cc in absurd (omega arith))
+    (λ f q. (ltb-false n 13 f, (cc), t)))
     (λ _ q. let z : _≡_ {A = ℕ} 0 1 = cc in absurd (omega arith))
 
 -- a record that was found to fit
@@ -43,10 +43,10 @@ record-fits i n x m =
     cond-both (ltb 32768 (i + size x)) _ _ (λ r. Ok m ≡ r → Fits i n x m)
     (λ _ q. let z : _≡_ {A = ℕ} 0 1 = cc in absurd (omega arith))
     (λ f. cond-both (proper x) _ _ (λ r. Ok m ≡ r → Fits i n x m)
-        (λ p. cond-both (ltb n (i + size x)) _ _ (λ r. Ok m ≡ r → Fits i n x m)
-            (λ _ q. let z : _≡_ {A = ℕ} 0 1 = cc in absurd (omega arith))
-            (λ g q. record { ends = cc; within = ltb-false n (i + size x) g; few = ltb-false 32768 (i + size x) f; good = p }))
-        (λ _ q. let z : _≡_ {A = ℕ} 0 1 = cc in absurd (omega arith)))
+    (λ p. cond-both (ltb n (i + size x)) _ _ (λ r. Ok m ≡ r → Fits i n x m)
+    (λ _ q. let z : _≡_ {A = ℕ} 0 1 = cc in absurd (omega arith))
+    (λ g q. record { ends = cc; within = ltb-false n (i + size x) g; few = ltb-false 32768 (i + size x) f; good = p }))
+    (λ _ q. let z : _≡_ {A = ℕ} 0 1 = cc in absurd (omega arith)))
 
 -- the pages that come of what was written
 pub page-started : (bs ys : List ℕ) (h : HeadCodes) (n : ℕ) → Ok n ≡ headEnd (length bs) h → ys ≡ pasted bs 0 (headBytes h) → Ok (record { bytes = ys; end = n }) ≡ startOn bs h

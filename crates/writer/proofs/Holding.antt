@@ -42,32 +42,32 @@ pasted-front bs i ys h =
     rw (← append-assoc (take i bs) ys (drop (i + length ys) bs)) (take-at _ _ _ l)
 
 pub holds-none : (bs ys : List ℕ) (h : HeadCodes) → inBounds h ≡ true → ys ≡ pasted bs 0 (headBytes h) → Holds (record { bytes = ys; end = 13 }) h []
-holds-none bs ys h b e = record
-    { bytes = ap (take 13) e ∙ pasted-front bs 0 (headBytes h) (omega arith) ∙ sym (append-nil (headBytes h))
-    ; takes = record { bounds = b; fields = tt; lengths = tt; few = omega arith }
-    }
+holds-none bs ys h b e = record {
+  bytes = ap (take 13) e ∙ pasted-front bs 0 (headBytes h) (omega arith) ∙ sym (append-nil (headBytes h));
+  takes = record { bounds = b; fields = tt; lengths = tt; few = omega arith };
+}
 
 module _ (p q : Page) (h : HeadCodes) (xs : List Item) (x : Item) (held : Holds p h xs) (fits : Fits (p .end) (length (p .bytes)) x (q .end)) where
   sheet-more : q .bytes ≡ pasted (p .bytes) (p .end) (encode x) → sheetOn q ≡ sheetBytes h (xs ++ x ∷ [])
   sheet-more e =
-    let n : q .end ≡ p .end + length (encode x) = omega (arith, fits .ends, size-is x) in
-    rw (n, e) (pasted-front (p .bytes) (p .end) (encode x) (omega (arith, fits .within)))
-    ∙ ap (λ l. l ++ encode x) (held .bytes)
-    ∙ append-assoc (headBytes h) (written xs) (encode x)
-    ∙ ap (λ l. headBytes h ++ l) (sym (written-more xs x))
+      let n : q .end ≡ p .end + length (encode x) = omega (arith, fits .ends, size-is x) in
+      rw (n, e) (pasted-front (p .bytes) (p .end) (encode x) (omega (arith, fits .within)))
+      ∙ ap (λ l. l ++ encode x) (held .bytes)
+      ∙ append-assoc (headBytes h) (written xs) (encode x)
+      ∙ ap (λ l. headBytes h ++ l) (sym (written-more xs x))
 
   pub holds-more : p .end ≤ length (p .bytes) → InFields x → q .bytes ≡ pasted (p .bytes) (p .end) (encode x) → Holds q h (xs ++ x ∷ [])
   holds-more i f e =
-    let s = sheet-more e in
-    record
-    { bytes = s
-    ; takes = record
-        { bounds = held .takes .bounds
-        ; fields = all-more InFields xs x (held .takes .fields) f
-        ; lengths = all-more (λ y. proper y ≡ true) xs x (held .takes .lengths) (fits .good)
-        ; few = omega (arith, ap length s, length-take (q .end) (q .bytes), fits .ends, fits .few)
-        }
-    }
+      let s = sheet-more e in
+      record {
+        bytes = s;
+        takes = record {
+          bounds = held .takes .bounds;
+          fields = all-more InFields xs x (held .takes .fields) f;
+          lengths = all-more (λ y. proper y ≡ true) xs x (held .takes .lengths) (fits .good);
+          few = omega (arith, ap length s, length-take (q .end) (q .bytes), fits .ends, fits .few);
+        };
+      }
 
 pub holds-reads : (p : Page) (h : HeadCodes) (xs : List Item) → Holds p h xs → ReadsAs (sheetOn p) h xs
 holds-reads p h xs held = let P : List ℕ → Type 0 = λ l. ReadsAs l h xs in subst P (sym (held .bytes)) (reads-back h xs (held .takes))

@@ -19,10 +19,10 @@ module _ (xs : List ℕ) (i : ℕ) (a b : List ℕ) (fits : i ≤ length xs) whe
   dropped : drop (i + length a + length b) (pasted xs i a) ≡ drop (i + length (a ++ b)) xs
   unfolding pasted
   dropped =
-    sym (drop-drop (length b) (i + length a) (pasted xs i a))
-    ∙ ap (drop (length b)) (rw (← append-assoc (take i xs) a (drop (i + length a) xs)) (drop-at _ _ _ front-long))
-    ∙ drop-drop (length b) (i + length a) xs
-    ∙ ap (λ n. drop n xs) (rw (length-append) (add-assoc _ _ _))
+      sym (drop-drop (length b) (i + length a) (pasted xs i a))
+      ∙ ap (drop (length b)) (rw (← append-assoc (take i xs) a (drop (i + length a) xs)) (drop-at _ _ _ front-long))
+      ∙ drop-drop (length b) (i + length a) xs
+      ∙ ap (λ n. drop n xs) (rw (length-append) (add-assoc _ _ _))
 
   pub pasted-twice : pasted (pasted xs i a) (i + length a) b ≡ pasted xs i (a ++ b)
   unfolding pasted

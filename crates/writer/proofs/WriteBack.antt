@@ -68,11 +68,11 @@ sized-back : (k m n : ℕ) (f : List ℕ → Item) (bs : List ℕ) → ((ys : Li
 sized-back k m n f bs w =
     cond-both (leb m (length bs)) _ _ (Back k bs)
     (λ t. cond-both (leb n (length (drop m bs))) _ _ (Back k bs)
-        (λ u x zs e.
-            let ys = take n (drop m bs) in
-            let p : bs ≡ (places 0 m bs ++ ys) ++ drop n (drop m bs) = opened m bs (leb-true m (length bs) t) ∙ ap (λ l. places 0 m bs ++ l) (sym (take-append-drop n (drop m bs))) ∙ sym (append-assoc (places 0 m bs) ys (drop n (drop m bs))) in
-            glue k x (f ys) bs (places 0 m bs ++ ys) (drop n (drop m bs)) zs (cc) (cc) p (w ys (length-take-le n (drop m bs) (leb-true n (length (drop m bs)) u))))
-        (λ _. no-record k bs 9))
+    (λ u x zs e.
+    let ys = take n (drop m bs) in
+    let p : bs ≡ (places 0 m bs ++ ys) ++ drop n (drop m bs) = opened m bs (leb-true m (length bs) t) ∙ ap (λ l. places 0 m bs ++ l) (sym (take-append-drop n (drop m bs))) ∙ sym (append-assoc (places 0 m bs) ys (drop n (drop m bs))) in
+    glue k x (f ys) bs (places 0 m bs ++ ys) (drop n (drop m bs)) zs (cc) (cc) p (w ys (length-take-le n (drop m bs) (leb-true n (length (drop m bs)) u))))
+    (λ _. no-record k bs 9))
     (λ _. no-record k bs 9)
 
 lettered-back : (k : ℕ) (bs : List ℕ) → Bytes bs → Back k bs (lettered k bs)
@@ -80,12 +80,12 @@ lettered-back k bs by =
     let two : (i : ℕ) → places i 2 bs ≡ bytesOf 2 (field i 2 bs) = λ i. sym (bytesOf-field 2 i bs (byte-at bs by)) in
     cond-both (eqb k letterL) _ _ (Back k bs) (λ t. fixed-back k 4 _ bs (rw (eqb-true k letterL t) (ap (λ l. letterL ∷ getD bs 0 0 ∷ (l ++ (getD bs 3 0 ∷ []))) (two 1)))) (λ _.
     cond-both (eqb k letterS) _ _ (Back k bs) (λ t. fixed-back k 12 _ bs (rw (eqb-true k letterS t)
-        (ap (λ l. letterS ∷ getD bs 0 0 ∷ (l ++ (getD bs 3 0 ∷ places 4 8 bs))) (two 1)
-        ∙ ap (λ l. letterS ∷ getD bs 0 0 ∷ (bytesOf 2 (field 1 2 bs) ++ (getD bs 3 0 ∷ l))) (sym (bytesOf-field 8 4 bs (byte-at bs by)))))) (λ _.
+    (ap (λ l. letterS ∷ getD bs 0 0 ∷ (l ++ (getD bs 3 0 ∷ places 4 8 bs))) (two 1)
+    ∙ ap (λ l. letterS ∷ getD bs 0 0 ∷ (bytesOf 2 (field 1 2 bs) ++ (getD bs 3 0 ∷ l))) (sym (bytesOf-field 8 4 bs (byte-at bs by)))))) (λ _.
     cond-both (eqb k letterD) _ _ (Back k bs) (λ t. fixed-back k 2 _ bs (rw (eqb-true k letterD t))) (λ _.
     cond-both (eqb k letterM) _ _ (Back k bs) (λ t. fixed-back k 1 _ bs (rw (eqb-true k letterM t))) (λ _.
     cond-both (eqb k letterC) _ _ (Back k bs) (λ t. sized-back k 3 (16 * getD bs 2 0) (content (field 0 2 bs)) bs (λ ys l. rw (eqb-true k letterC t)
-        (let c : getD bs 2 0 ≡ length ys / 16 = omega arith in ap (λ l. letterC ∷ (l ++ (getD bs 2 0 ∷ ys))) (two 0) ∙ ap (λ n. letterC ∷ (bytesOf 2 (field 0 2 bs) ++ (n ∷ ys))) c))) (λ _.
+    (let c : getD bs 2 0 ≡ length ys / 16 = omega arith in ap (λ l. letterC ∷ (l ++ (getD bs 2 0 ∷ ys))) (two 0) ∙ ap (λ n. letterC ∷ (bytesOf 2 (field 0 2 bs) ++ (n ∷ ys))) c))) (λ _.
     cond-both (eqb k letterN) _ _ (Back k bs) (λ t. sized-back k 1 _ note bs (λ ys l. rw (eqb-true k letterN t) (ap (λ n. letterN ∷ n ∷ ys) (sym l)))) (λ _. no-record k bs 8))))))
 
 front-back : (bs : List ℕ) (x : Item) (zs : List ℕ) → Bytes bs → front bs ≡ holds x zs → bs ≡ encode x ++ zs
@@ -137,10 +137,10 @@ head-is bs h =
     cond-both (ltb 32768 (length bs)) _ _ (λ r. r ≡ Ok h → (marked bs ≡ true) × (codesIn bs ≡ h))
     (λ _ e. let z : _≡_ {A = ℕ} 0 1 = cc in absurd (omega arith))
     (λ _. cond-both (marked bs) _ _ (λ r. r ≡ Ok h → (marked bs ≡ true) × (codesIn bs ≡ h))
-        (λ m. cond-both (inBounds (codesIn bs)) _ _ (λ r. r ≡ Ok h → (marked bs ≡ true) × (codesIn bs ≡ h))
-            (λ _ e. (m, (cc)))
-            (λ _ e. let z : _≡_ {A = ℕ} 0 1 = cc in absurd (omega arith)))
-        (λ _ e. let z : _≡_ {A = ℕ} 0 1 = cc in absurd (omega arith)))
+    (λ m. cond-both (inBounds (codesIn bs)) _ _ (λ r. r ≡ Ok h → (marked bs ≡ true) × (codesIn bs ≡ h))
+    (λ _ e. (m, (cc)))
+    (λ _ e. let z : _≡_ {A = ℕ} 0 1 = cc in absurd (omega arith)))
+    (λ _ e. let z : _≡_ {A = ℕ} 0 1 = cc in absurd (omega arith)))
 
 marked-codes : (bs : List ℕ) → Bytes bs → marked bs ≡ true → headBytes (codesIn bs) ++ drop 13 bs ≡ bs
 marked-codes bs h t =
@@ -151,8 +151,8 @@ marked-codes bs h t =
     let v = and-parts (eqb (getD bs 3 0) 1) (eqb (getD bs 4 0) 0) (s .1) in
     let blocks = bytesOf-field 2 11 bs (byte-at bs h) in
     let codes : headBytes (codesIn bs) ≡ places 0 13 bs =
-        rw (eqb-true _ _ (m .0), eqb-true _ _ (o .0), eqb-true _ _ (s .0), eqb-true _ _ (v .0), eqb-true _ _ (v .1))
-        (ap (λ l. 77 ∷ 79 ∷ 83 ∷ 1 ∷ 0 ∷ getD bs 5 0 ∷ getD bs 6 0 ∷ getD bs 7 0 ∷ getD bs 8 0 ∷ getD bs 9 0 ∷ getD bs 10 0 ∷ l) blocks) in
+    rw (eqb-true _ _ (m .0), eqb-true _ _ (o .0), eqb-true _ _ (s .0), eqb-true _ _ (v .0), eqb-true _ _ (v .1))
+    (ap (λ l. 77 ∷ 79 ∷ 83 ∷ 1 ∷ 0 ∷ getD bs 5 0 ∷ getD bs 6 0 ∷ getD bs 7 0 ∷ getD bs 8 0 ∷ getD bs 9 0 ∷ getD bs 10 0 ∷ l) blocks) in
     ap (λ l. l ++ drop 13 bs) codes ∙ sym (opened 13 bs (leb-true 13 (length bs) (l .0)))
 
 pub head-written : (bs : List ℕ) (h : HeadCodes) → Bytes bs → headOf bs ≡ Ok h → headBytes h ++ drop 13 bs ≡ bs

@@ -84,7 +84,19 @@ pub(crate) fn write_head(out: &mut [u8], codes: HeadCodes)
 {
     let [lo, hi] = codes.blocks.to_le_bytes();
     let head = [
-        b'M', b'O', b'S', 1, 0, codes.protocol, codes.channels, codes.memory, codes.caches, codes.sets, codes.ways, lo, hi,
+        b'M',
+        b'O',
+        b'S',
+        1,
+        0,
+        codes.protocol,
+        codes.channels,
+        codes.memory,
+        codes.caches,
+        codes.sets,
+        codes.ways,
+        lo,
+        hi,
     ];
     paste(out, 0, &head);
 }
@@ -101,7 +113,12 @@ pub(crate) fn write_record(out: &mut [u8], at: usize, rec: &Record<'_>)
             let [lo, hi] = block.to_le_bytes();
             paste(out, at, &[b'L', *cache, lo, hi, *word]);
         }
-        Record::Store { cache, block, word, value } => {
+        Record::Store {
+            cache,
+            block,
+            word,
+            value,
+        } => {
             let [lo, hi] = block.to_le_bytes();
             paste(out, at, &[b'S', *cache, lo, hi, *word]);
             paste(out, at + 5, &value.to_le_bytes());

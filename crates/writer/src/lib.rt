@@ -1,5 +1,5 @@
 // Writes run sheets: an open sheet takes records into the caller's buffer, a sealed one takes no more.
+mod encode;
+pub mod laws;
 pub mod open;
 pub mod sealed;
-pub mod laws;
-mod encode;

@@ -3,12 +3,12 @@ ghost use lib.ListN.{drop};
 ghost use Rattle.std.specs.Of.Vec.{vec-items};
 ghost use Rattle.sheet.specs.Format.{front};
 ghost use Rattle.sheet.specs.Reads.{left, drawn, answerAt, leftAt};
-use bedrock::refusal::Refusal;
 use crate::parse::Split;
 use crate::parse::split_record;
 use crate::reader::Reader;
 use crate::records::Record;
 use crate::sheets::CheckedSheet;
+use bedrock::refusal::Refusal;
 
 impl<'a> Reader<'a> {
     // The next record, or none past the last. A refusal keeps the place.
@@ -34,6 +34,9 @@ impl CheckedSheet {
     pub fn records(&self) -> Reader<'_>
         ensures { λ r. ⌜ left r ≡ drop 13 (vec-items (now (self .entry) .bytes)) ⌝ }
     {
-        Reader { bytes: self.bytes(), at: 13 }
+        Reader {
+            bytes: self.bytes(),
+            at: 13,
+        }
     }
 }

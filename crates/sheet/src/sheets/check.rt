@@ -7,11 +7,11 @@ ghost use Rattle.std.specs.declared.result.Result.the-variants.{Ok};
 ghost use Rattle.bedrock.specs.Refusals.{outcome};
 ghost use Rattle.sheet.specs.Checks.{verdict};
 ghost use Rattle.sheet.specs.Heads.{headCodes, headOf, codesIn};
-use bedrock::refusal::Refusal;
 use crate::head::Head;
 use crate::head::HeadCodes;
 use crate::sheets::CheckedSheet;
 use crate::sheets::UncheckedSheet;
+use bedrock::refusal::Refusal;
 
 // The codes that stand in the 13 bytes of a head, after mark and version.
 fn codes_in(bytes: &[u8]) -> HeadCodes

@@ -10,15 +10,15 @@ ghost use Rattle.sheet.specs.declared.head.HeadCodes.{HeadCodes};
 ghost use Rattle.writer.specs.Writes.{startOn, putOn, recordEnd, sheetOn};
 ghost use Rattle.writer.specs.RoundTrips.{Holds, ReadsAs};
 ghost use Rattle.writer.specs.Pages.{openPage, sealedPage, started};
-use bedrock::refusal::Refusal;
-use sheet::head::HeadCodes;
-use sheet::records::Record;
 use crate::encode::head_end;
 use crate::encode::record_end;
 use crate::encode::write_head;
 use crate::encode::write_record;
 use crate::open::OpenSheet;
 use crate::sealed::SealedSheet;
+use bedrock::refusal::Refusal;
+use sheet::head::HeadCodes;
+use sheet::records::Record;
 
 impl OpenSheet {
     // A sheet with this head and no records yet. A refusal hands the buffer back as it was.

@@ -13,7 +13,7 @@ loop-i-again c =
     let i = c .loop-i .i in
     let bytes = c .args .bytes .now in
     let text : c .as-bytes .result .now ≡ codes " " ++ decimal (field (8 * i) 8 bytes) =
-        c .as-bytes .ensures .value ∙ c .in-Continue-text .ensures tt .made ∙ ap (λ n. codes " " ++ decimal n) (c .word-at-word .ensures) in
+    c .as-bytes .ensures .value ∙ c .in-Continue-text .ensures tt .made ∙ ap (λ n. codes " " ++ decimal n) (c .word-at-word .ensures) in
     c .in-Continue-extend-from-slice .ensures tt .items
     ∙ ap (λ l. l ++ c .as-bytes .result .now) (c .loop-i .inv)
     ∙ ap (λ l. firstWords i bytes ++ l) text

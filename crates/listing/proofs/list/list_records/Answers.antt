@@ -12,10 +12,11 @@ loop-next-less c = drew-record _ _ _ (rw (c .in-Some .is) at (c .in-Ok .ensures 
 pub loop-next-again : need.loop-next-again
 loop-next-again c =
     let a = rw (c .in-Some .is) at (c .in-Ok .ensures tt .answers) in
-    let g = c .in-Ok .ensures tt .goes in
-    ( omega (arith, drew-record _ _ _ a g .1, c .loop-next .inv .0)
-    , listed-record (vec-items (c .loop-next .out)) _ _ _ (c .loop-next .inv .1) _ _ _ a g
-        (c .in-Continue-extend-from-slice .ensures tt .items ∙ ap (λ l. vec-items (c .loop-next .out) ++ l) (c .as-slice .ensures .value ∙ c .in-Continue-line .ensures tt)))
+    let g = c .in-Ok .ensures tt .goes in (
+      omega (arith, drew-record _ _ _ a g .1, c .loop-next .inv .0),
+      listed-record (vec-items (c .loop-next .out)) _ _ _ (c .loop-next .inv .1) _ _ _ a g
+          (c .in-Continue-extend-from-slice .ensures tt .items ∙ ap (λ l. vec-items (c .loop-next .out) ++ l) (c .as-slice .ensures .value ∙ c .in-Continue-line .ensures tt)),
+    )
 
 pub returns-in-None : need.returns-in-None
 returns-in-None c = listed-all (vec-items (c .loop-next .out)) _ _ _ (c .loop-next .inv .1) (rw (c .in-None .is) at (c .in-Ok .ensures tt .answers))

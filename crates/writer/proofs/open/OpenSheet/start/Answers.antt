@@ -25,10 +25,10 @@ pub returns-in-Ok : need.returns-in-Ok
 returns-in-Ok c =
     let v = c .args .buffer in
     let a : Ok (c .in-Ok .end) ≡ headEnd (length (vec-items v)) (c .args .codes) =
-        c .in-Ok .ensures tt ∙ ap (λ n. headEnd n (c .args .codes)) (c .len .ensures ∙ v .ok .0) in
+    c .in-Ok .ensures tt ∙ ap (λ n. headEnd n (c .args .codes)) (c .len .ensures ∙ v .ok .0) in
     let b = refilled-is v (c .write-head .last .out) (omega arith) ∙ c .write-head .ensures ∙ ap (λ l. pasted l 0 (headBytes (c .args .codes))) (c .as-mut-slice .ensures .value) in
     let f = head-fits _ (c .args .codes) _ a in
-    record
-    { answers = page-started (vec-items v) _ (c .args .codes) _ a b
-    ; gives = rw (f .1) (holds-none (vec-items v) _ (c .args .codes) (f .2) b)
+    record {
+      answers = page-started (vec-items v) _ (c .args .codes) _ a b;
+      gives = rw (f .1) (holds-none (vec-items v) _ (c .args .codes) (f .2) b);
     }

@@ -1,0 +1,4 @@
+pub mod States
+pub mod Rows
+pub mod ProtocolKinds
+pub mod Tables
