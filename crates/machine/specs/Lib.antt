@@ -1,0 +1,13 @@
+pub mod Tables
+pub mod Holdings
+pub mod Machines
+pub mod Outcomes
+pub mod Orders
+pub mod Directory
+pub mod Acceptance
+pub mod Commands
+pub mod Responses
+pub mod Questions
+pub mod Runs
+pub mod Coherence
+pub mod Examples
