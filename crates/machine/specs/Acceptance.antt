@@ -90,8 +90,8 @@ abbrev pub recordJob : Machine → Job → ℕ → Machine
 recordJob m j n =
     withCount
     (withServing
-        (withEntries m (put 16 (m .entry) (home m (j .block)) (settled j (m .entry (home m (j .block))))))
-        (home m (j .block)) (Some (record { job = j; round = One n })))
+    (withEntries m (put 16 (m .entry) (home m (j .block)) (settled j (m .entry (home m (j .block))))))
+    (home m (j .block)) (Some (record { job = j; round = One n })))
     (home m (j .block)) (1 + n)
 
 -- ---- round two
@@ -125,6 +125,7 @@ accept m i q j (x ∷ xs) =
 
 -- 12 where none waits, 13 where the set's count is not 0: the request stays waiting
 abbrev pub deliverRequest : Machine → ℕ → Outcome
-deliverRequest m i = elim (nth (m .requests) i)
-    [ None ↦ refuse m 12
-    | Some q ↦ cond (eqb (m .count (home m (q .block))) 0) (accept m i q (jobFor m q) (firstRound m q)) (refuse m 13) ]
+deliverRequest m i = elim (nth (m .requests) i) [
+  | None ↦ refuse m 12
+  | Some q ↦ cond (eqb (m .count (home m (q .block))) 0) (accept m i q (jobFor m q) (firstRound m q)) (refuse m 13)
+]

@@ -28,11 +28,12 @@ use Rattle.machine.specs.Runs.{Call, orders, delivers, turns, Event, run}
 -- the last order of cache c that answered "moved on", unless an event has finished it since
 abbrev pub waitingOrder : ℕ → List Event → Option Order
 waitingOrder c [] = None
-waitingOrder c (e ∷ past) = elim (e .says)
-    [ movedOn ↦ elim (e .call) [ orders d o ↦ cond (eqb d c) (Some o) (waitingOrder c past) | delivers ch i ↦ waitingOrder c past | turns i ↦ waitingOrder c past ]
-    | loaded d v ↦ cond (eqb d c) None (waitingOrder c past)
-    | stored d v ↦ cond (eqb d c) None (waitingOrder c past)
-    | refused n ↦ waitingOrder c past ]
+waitingOrder c (e ∷ past) = elim (e .says) [
+  | movedOn ↦ elim (e .call) [ orders d o ↦ cond (eqb d c) (Some o) (waitingOrder c past) | delivers ch i ↦ waitingOrder c past | turns i ↦ waitingOrder c past ]
+  | loaded d v ↦ cond (eqb d c) None (waitingOrder c past)
+  | stored d v ↦ cond (eqb d c) None (waitingOrder c past)
+  | refused n ↦ waitingOrder c past
+]
 
 -- the order that a call finishes which answers "finished" for cache c: its own, if it is an order of that cache, else the one
 -- that the cache waits with
@@ -51,20 +52,22 @@ leaves (Some o) b k old = elim o [ Load d l ↦ old | Store d l v ↦ cond (eqb 
 -- what the last store on word k of block b to finish put there, or the starting content if none did
 abbrev pub latest : (ℕ → Words) → List Event → ℕ → ℕ → ℕ
 latest content [] b k = wordOf (content b) k
-latest content (e ∷ past) b k = elim (e .says)
-    [ movedOn ↦ latest content past b k
-    | loaded c v ↦ latest content past b k
-    | stored c v ↦ leaves (finished c (e .call) past) b k (latest content past b k)
-    | refused n ↦ latest content past b k ]
+latest content (e ∷ past) b k = elim (e .says) [
+  | movedOn ↦ latest content past b k
+  | loaded c v ↦ latest content past b k
+  | stored c v ↦ leaves (finished c (e .call) past) b k (latest content past b k)
+  | refused n ↦ latest content past b k
+]
 
 -- An event that finishes a load finishes one of its cache, and answers the latest value of its word; one that finishes a store
 -- finishes one of its cache, and answers its own value.
 abbrev pub Sound : (ℕ → Words) → Event → List Event → Type 0
-Sound content e past = elim (e .says)
-    [ movedOn ↦ Unit {0}
-    | loaded c v ↦ (b : ℕ) × (k : ℕ) × (finished c (e .call) past ≡ Some (Load b k)) × (v ≡ latest content past b k)
-    | stored c v ↦ (b : ℕ) × (k : ℕ) × (finished c (e .call) past ≡ Some (Store b k v))
-    | refused n ↦ Unit {0} ]
+Sound content e past = elim (e .says) [
+  | movedOn ↦ Unit {0}
+  | loaded c v ↦ (b : ℕ) × (k : ℕ) × (finished c (e .call) past ≡ Some (Load b k)) × (v ≡ latest content past b k)
+  | stored c v ↦ (b : ℕ) × (k : ℕ) × (finished c (e .call) past ≡ Some (Store b k v))
+  | refused n ↦ Unit {0}
+]
 
 abbrev pub NoStaleLoad : (ℕ → Words) → List Event → Type 0
 NoStaleLoad content [] = Unit {0}

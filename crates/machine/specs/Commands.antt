@@ -63,7 +63,8 @@ sendsOn (SetStateWakeup c b w) = false
 
 -- 12 where none waits; 14 counts the free places before the command is taken
 abbrev pub deliverCommand : Machine → ℕ → Outcome
-deliverCommand m i = elim (nth (m .commands) i)
-    [ None ↦ refuse m 12
-    | Some x ↦ cond (ltb 128 (length (m .responses) + answersTo x) || (sendsOn x && leb 128 (length (m .commands)))) (refuse m 14)
-        (obey (withCommands m (without (m .commands) i)) x) ]
+deliverCommand m i = elim (nth (m .commands) i) [
+  | None ↦ refuse m 12
+  | Some x ↦ cond (ltb 128 (length (m .responses) + answersTo x) || (sendsOn x && leb 128 (length (m .commands)))) (refuse m 14)
+      (obey (withCommands m (without (m .commands) i)) x)
+]

@@ -21,18 +21,18 @@ use Rattle.machine.specs.Holdings.{noWay, noEntry}
 
 pub record Machine : Type 0 where
   pub geometry : Sizes
-  pub rows : State → Row                       -- the protocol: the row of a read, by the state that the directory shows
-  pub way : ℕ → ℕ → ℕ → Way                    -- set, cache, way
-  pub entry : ℕ → ℕ → ℕ → Entry                -- set, cache, way
-  pub kept : ℕ → Option Order                  -- cache: the order that it waits with
-  pub turn : ℕ → ℕ → ℕ                         -- set, cache: the way to empty next, where none is in I
-  pub serving : ℕ → Option Transaction         -- set
-  pub count : ℕ → ℕ                            -- set: how many answers the directory awaits
-  pub memory : ℕ → Words                       -- block
-  pub requests : List Request                  -- channel 0
-  pub commands : List Command                  -- channel 1
-  pub responses : List Response                -- channel 2
-  pub memoryCommands : List MemoryCommand      -- channel 3
+  pub rows : State → Row  -- the protocol: the row of a read, by the state that the directory shows
+  pub way : ℕ → ℕ → ℕ → Way  -- set, cache, way
+  pub entry : ℕ → ℕ → ℕ → Entry  -- set, cache, way
+  pub kept : ℕ → Option Order  -- cache: the order that it waits with
+  pub turn : ℕ → ℕ → ℕ  -- set, cache: the way to empty next, where none is in I
+  pub serving : ℕ → Option Transaction  -- set
+  pub count : ℕ → ℕ  -- set: how many answers the directory awaits
+  pub memory : ℕ → Words  -- block
+  pub requests : List Request  -- channel 0
+  pub commands : List Command  -- channel 1
+  pub responses : List Response  -- channel 2
+  pub memoryCommands : List MemoryCommand  -- channel 3
 
 -- a fabric that was just built: all ways in I, counts 0, nothing on its way; the starting content is what the memory holds
 abbrev pub new : Sizes → (State → Row) → (ℕ → Words) → Machine

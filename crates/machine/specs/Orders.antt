@@ -41,9 +41,10 @@ askFor m c o w = moveOn (request (withKept m c (Some o)) (record { access = acce
 
 -- a miss without a way that holds the block: the lowest in I, else the one that the turn number names
 abbrev pub askForNew : Machine → ℕ → Order → ℕ → Outcome
-askForNew m c o s = elim (emptyWay m s c)
-    [ Some w ↦ askFor m c o w
-    | None ↦ askFor (withTurn m s c (nextTurn m s c)) c o (m .turn s c) ]
+askForNew m c o s = elim (emptyWay m s c) [
+  | Some w ↦ askFor m c o w
+  | None ↦ askFor (withTurn m s c (nextTurn m s c)) c o (m .turn s c)
+]
 
 -- 14 where there is no room for the request
 abbrev pub miss : Machine → ℕ → Order → Option ℕ → Outcome

@@ -11,9 +11,9 @@ use Rattle.machine.specs.Machines.{Machine}
 -- An accepted call moves on, or finishes an order: a cache's load or store, with the word's value. A refused one answers its number only.
 pub data Said : Type 0 where
   movedOn : Said
-  loaded : ℕ → ℕ → Said          -- cache, value
-  stored : ℕ → ℕ → Said          -- cache, value
-  refused : ℕ → Said             -- number
+  loaded : ℕ → ℕ → Said  -- cache, value
+  stored : ℕ → ℕ → Said  -- cache, value
+  refused : ℕ → Said  -- number
 
 -- what the code's answer says
 abbrev pub said : Result Answer Refusal → Said

@@ -43,10 +43,16 @@ writesOn (NullWriteback c b) = 0
 -- one starts round two; in round two nothing starts.
 abbrev pub advance : Machine → ℕ → Option Transaction → Machine
 advance m s None = m
-advance m s (Some t) = elim (t .round)
-    [ Two ↦ m
-    | One n ↦ elim n [ zero ↦ m | suc k ↦ elim k [ zero ↦ beginTwo m (t .job)
-        | suc l ↦ withServing m s (Some (record { job = t .job; round = One (suc l) })) ] ] ]
+advance m s (Some t) = elim (t .round) [
+  | Two ↦ m
+  | One n ↦ elim n [
+    | zero ↦ m
+    | suc k ↦ elim k [
+      | zero ↦ beginTwo m (t .job)
+      | suc l ↦ withServing m s (Some (record { job = t .job; round = One (suc l) }))
+    ]
+  ]
+]
 
 -- the source that the next answer would start to fetch from, if it starts round two
 abbrev pub starts : Option Transaction → Option Source
@@ -68,11 +74,12 @@ takeResponse m i x =
     passOn (withCount (withResponses m (without (m .responses) i)) s (m .count s - 1)) x
 
 abbrev pub deliverResponse : Machine → ℕ → Outcome
-deliverResponse m i = elim (nth (m .responses) i)
-    [ None ↦ refuse m 12
-    | Some x ↦ let s : ℕ = home m (responseBlock x) in
-        cond (ltb 128 (length (m .memoryCommands) + (writesOn x + memoryReads (starts (m .serving s)))) || ltb 128 (length (m .commands) + commandsSent (starts (m .serving s)))) (refuse m 14)
-        (moveOn (close (advance (takeResponse m i x) s (m .serving s)) s)) ]
+deliverResponse m i = elim (nth (m .responses) i) [
+  | None ↦ refuse m 12
+  | Some x ↦ let s : ℕ = home m (responseBlock x) in
+      cond (ltb 128 (length (m .memoryCommands) + (writesOn x + memoryReads (starts (m .serving s)))) || ltb 128 (length (m .commands) + commandsSent (starts (m .serving s)))) (refuse m 14)
+      (moveOn (close (advance (takeResponse m i x) s (m .serving s)) s))
+]
 
 -- ---- the memory's turn: a read sends Set Tag with Data, a write changes the memory
 
@@ -85,8 +92,9 @@ isRead (Read b r w next) = true
 isRead (Write b ws) = false
 
 abbrev pub memoryTurn : Machine → ℕ → Outcome
-memoryTurn m i = elim (nth (m .memoryCommands) i)
-    [ None ↦ refuse m 12
-    | Some x ↦ let s : ℕ = home m (memoryCommandBlock x) in
-        cond (isRead x && leb 128 (length (m .commands))) (refuse m 14)
-        (moveOn (close (carryOut (withCount (withMemoryCommands m (without (m .memoryCommands) i)) s (m .count s - 1)) x) s)) ]
+memoryTurn m i = elim (nth (m .memoryCommands) i) [
+  | None ↦ refuse m 12
+  | Some x ↦ let s : ℕ = home m (memoryCommandBlock x) in
+      cond (isRead x && leb 128 (length (m .commands))) (refuse m 14)
+      (moveOn (close (carryOut (withCount (withMemoryCommands m (without (m .memoryCommands) i)) s (m .count s - 1)) x) s))
+]

@@ -12,9 +12,9 @@ use Rattle.machine.specs.Responses.{deliverResponse, memoryTurn}
 -- The three calls that move a fabric. A delivery and a memory turn take the index of the message that arrives, the oldest being 0:
 -- a channel only chooses which index a pick shows, so what holds for every index holds for every channel.
 pub data Call : Type 0 where
-  orders : ℕ → Order → Call             -- cache
-  delivers : ℕ → ℕ → Call               -- channel, index
-  turns : ℕ → Call                      -- index
+  orders : ℕ → Order → Call  -- cache
+  delivers : ℕ → ℕ → Call  -- channel, index
+  turns : ℕ → Call  -- index
 
 -- 4 no such channel
 abbrev pub deliver : Machine → ℕ → ℕ → Outcome
