@@ -23,7 +23,7 @@ use Rattle.machine.specs.declared.transaction.Job.{Job}
 use Rattle.machine.specs.declared.transaction.Round.the-variants.{One, Two}
 use Rattle.machine.specs.Tables.{put, put₂}
 use Rattle.machine.specs.Holdings.{noEntry, entryIn, isWrite}
-use Rattle.machine.specs.Machines.{Machine, home, withEntries, withServing, withCount, withRequests, withCommands, command, askMemory}
+use Rattle.machine.specs.Machines.{Machine, home, oneMore, withEntries, withServing, withCount, withRequests, withCommands, command, askMemory}
 use Rattle.machine.specs.Outcomes.{Outcome, refuse, moveOn}
 use Rattle.machine.specs.Directory.{shownWay, shownState, sharing, owner, view, orZero, found}
 
@@ -98,10 +98,10 @@ recordJob m j n =
 
 -- a memory read, a Wakeup for an upgrade, or a Transfer to the owner; a memory read and a write back are awaited too
 abbrev pub fetch : Machine → Job → Source → Machine
-fetch m j Memory = withCount (askMemory m (Read (j .block) (j .requestor) (j .way) (j .next))) (home m (j .block)) (m .count (home m (j .block)) + 1)
+fetch m j Memory = withCount (askMemory m (Read (j .block) (j .requestor) (j .way) (j .next))) (home m (j .block)) (oneMore (m .count (home m (j .block))))
 fetch m j OwnCopy = command m (SetStateWakeup (j .requestor) (j .block) (j .way))
 fetch m j (Owner c w shown next writeback) =
-    withCount (command m (Transfer c (j .block) w (j .requestor) (j .way) next (j .next) writeback)) (home m (j .block)) (m .count (home m (j .block)) + cond writeback 1 0)
+    withCount (command m (Transfer c (j .block) w (j .requestor) (j .way) next (j .next) writeback)) (home m (j .block)) (cond writeback (oneMore (m .count (home m (j .block)))) (m .count (home m (j .block))))
 
 abbrev pub beginTwo : Machine → Job → Machine
 beginTwo m j = withServing (fetch m j (j .source)) (home m (j .block)) (Some (record { job = j; round = Two }))

@@ -1,6 +1,6 @@
 -- The whole fabric as values: what stands at each key, and the four lists of waiting messages, oldest first.
 use mathlib.Core.List.{List, [], _∷_, _++_}
-use Prim.Native.Nat.{ℕ}
+use Prim.Native.Nat.{ℕ, _+_, min}
 use Rattle.std.specs.declared.option.Option.{Option}
 use Rattle.std.specs.declared.option.Option.the-variants.{None}
 use Rattle.bedrock.specs.declared.words.Words.{Words}
@@ -75,6 +75,10 @@ withResponses m l = record { geometry = m .geometry; rows = m .rows; way = m .wa
 
 abbrev pub withMemoryCommands : Machine → List MemoryCommand → Machine
 withMemoryCommands m l = record { geometry = m .geometry; rows = m .rows; way = m .way; entry = m .entry; kept = m .kept; turn = m .turn; serving = m .serving; count = m .count; memory = m .memory; requests = m .requests; commands = m .commands; responses = m .responses; memoryCommands = l }
+
+-- One answer more is awaited. The count is kept in 16 bits and would stop at their end, which no run comes near.
+abbrev pub oneMore : ℕ → ℕ
+oneMore n = min (n + 1) 65535
 
 -- A message goes out: it comes last on its channel.
 abbrev pub request : Machine → Request → Machine

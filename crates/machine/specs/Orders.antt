@@ -1,7 +1,7 @@
 -- An order: a load or a store by one cache.
 use mathlib.Core.Bool.{cond, not, _&&_}
 use Prim.Native.Nat.{ℕ, suc}
-use lib.Dec.{eqb, leb}
+use lib.Dec.{eqb, leb, ltb}
 use lib.ListN.{length}
 use Rattle.std.specs.declared.option.Option.{Option}
 use Rattle.std.specs.declared.option.Option.the-variants.{Some, None}
@@ -33,7 +33,7 @@ finish m s c w st ws (Store b k v) = record { says = stored c v; after = withWay
 
 -- the turn number after it was used: one up, back to 0 after the last way
 abbrev pub nextTurn : Machine → ℕ → ℕ → ℕ
-nextTurn m s c = cond (eqb (suc (m .turn s c)) (m .geometry .ways)) 0 (suc (m .turn s c))
+nextTurn m s c = cond (ltb (suc (m .turn s c)) (m .geometry .ways)) (suc (m .turn s c)) 0
 
 -- the cache keeps the order and waits, and a request goes out that names way w
 abbrev pub askFor : Machine → ℕ → Order → ℕ → Outcome

@@ -18,7 +18,7 @@ use Rattle.machine.specs.declared.transaction.Source.{Source}
 use Rattle.machine.specs.declared.transaction.Round.{Round}
 use Rattle.machine.specs.declared.transaction.Round.the-variants.{One, Two}
 use Rattle.machine.specs.declared.transaction.Transaction.{Transaction}
-use Rattle.machine.specs.Machines.{Machine, home, withServing, withCount, withMemory, withResponses, withMemoryCommands, command, askMemory}
+use Rattle.machine.specs.Machines.{Machine, home, oneMore, withServing, withCount, withMemory, withResponses, withMemoryCommands, command, askMemory}
 use Rattle.machine.specs.Outcomes.{Outcome, refuse, moveOn}
 use Rattle.machine.specs.Acceptance.{beginTwo, fromMemory}
 
@@ -30,7 +30,7 @@ close m s = cond (eqb (m .count s) 0) (withServing m s None) m
 abbrev pub passOn : Machine → Response → Machine
 passOn m (InvalidateAck c b) = m
 passOn m (CoherenceAck c b) = m
-passOn m (Writeback c b ws) = withCount (askMemory m (Write b ws)) (home m b) (m .count (home m b) + 1)
+passOn m (Writeback c b ws) = withCount (askMemory m (Write b ws)) (home m b) (oneMore (m .count (home m b)))
 passOn m (NullWriteback c b) = m
 
 abbrev pub writesOn : Response → ℕ
