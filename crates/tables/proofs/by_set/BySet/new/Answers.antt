@@ -1,0 +1,5 @@
+use Rattle.tables.proofs.Grids.{column-new}
+use Rattle.tables.proofs.by_set.BySet.new.Needs as need
+
+pub returns : need.returns
+returns g c = column-new (c .args .zero) 16
