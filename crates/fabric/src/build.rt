@@ -18,7 +18,14 @@ use tables::by_set_cache::BySetCache;
 use tables::by_way::ByWay;
 use wires::channel::Channel;
 
-impl<P: Protocol, Q: Channel<Request>, C: Channel<Command>, R: Channel<Response>, D: Channel<MemoryCommand>, M: Memory> Fabric<P, Q, C, R, D, M> {
+impl<
+    P: Protocol,
+    Q: Channel<Request>,
+    C: Channel<Command>,
+    R: Channel<Response>,
+    D: Channel<MemoryCommand>,
+    M: Memory,
+> Fabric<P, Q, C, R, D, M> {
     // A fabric whose caches are empty, over four new channels. The starting content is what the memory holds. It is never refused.
     pub fn build(geometry: Geometry, protocol: P, memory: M) -> Fabric<P, Q, C, R, D, M>
         ensures { λ r. ⌜ view (P·Protocol .row) (Q·Channel .waiting) (C·Channel .waiting) (R·Channel .waiting) (D·Channel .waiting) (M·Memory .blocks) r ≡ new (sizes geometry) (P·Protocol .row protocol) (M·Memory .blocks memory) ⌝ }

@@ -1,4 +1,6 @@
 // The fabric: a directory, caches, four channels and a memory, generic over protocol, channels and memory.
-pub mod state;
 pub mod build;
+pub mod orders;
 pub mod questions;
+mod search;
+pub mod state;

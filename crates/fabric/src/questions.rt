@@ -16,7 +16,14 @@ use protocols::protocol::Protocol;
 use wires::channel::Channel;
 
 // Questions: what stands where, or why there is no such place. They change nothing.
-impl<P: Protocol, Q: Channel<Request>, C: Channel<Command>, R: Channel<Response>, D: Channel<MemoryCommand>, M: Memory> Fabric<P, Q, C, R, D, M> {
+impl<
+    P: Protocol,
+    Q: Channel<Request>,
+    C: Channel<Command>,
+    R: Channel<Response>,
+    D: Channel<MemoryCommand>,
+    M: Memory,
+> Fabric<P, Q, C, R, D, M> {
     pub fn way(&self, cache: u8, set: u8, way: u8) -> Result<Way, Refusal>
         ensures { λ r. ⌜ outcome (λ v. v) r ≡ wayAsked (view (P·Protocol .row) (Q·Channel .waiting) (C·Channel .waiting) (R·Channel .waiting) (D·Channel .waiting) (M·Memory .blocks) (now (self .entry))) cache set way ⌝ }
     {

@@ -16,8 +16,15 @@ impl Way {
     pub fn empty() -> Way
         ensures { λ r. ⌜ r ≡ noWay ⌝ }
     {
-        let words = Words { first: 0, second: 0 };
-        Way { state: State::I, block: 0, words }
+        let words = Words {
+            first: 0,
+            second: 0,
+        };
+        Way {
+            state: State::I,
+            block: 0,
+            words,
+        }
     }
 
     // A block's words in a state; in I none of them shows.
@@ -26,7 +33,11 @@ impl Way {
     {
         match state {
             State::I => Way::empty(),
-            _ => Way { state, block, words },
+            _ => Way {
+                state,
+                block,
+                words,
+            },
         }
     }
 }
@@ -43,6 +54,9 @@ impl Entry {
     pub fn empty() -> Entry
         ensures { λ r. ⌜ r ≡ noEntry ⌝ }
     {
-        Entry { state: State::I, block: 0 }
+        Entry {
+            state: State::I,
+            block: 0,
+        }
     }
 }

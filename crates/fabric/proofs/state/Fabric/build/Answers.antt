@@ -29,5 +29,5 @@ returns g c =
       requests = c .new-7 .ensures t;
       commands = c .new-8 .ensures t;
       responses = c .new-9 .ensures t;
-      memoryCommands = c .new-10 .ensures t
+      memoryCommands = c .new-10 .ensures t;
     }
