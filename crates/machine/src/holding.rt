@@ -54,9 +54,10 @@ impl Entry {
     pub fn empty() -> Entry
         ensures { λ r. ⌜ r ≡ noEntry ⌝ }
     {
+        let block = 0;
         Entry {
             state: State::I,
-            block: 0,
+            block,
         }
     }
 }
