@@ -9,10 +9,10 @@ use std::alloc::AllocError;
 use std::alloc::Global;
 
 // MOSIF, paired channels, a memory of words; 7 caches, 3 sets, 2 ways, 260 blocks.
-pub const HEAD: [u8; 13] = [b'M', b'O', b'S', 1, 0, 5, 1, 0, 7, 3, 2, 4, 1];
+pub(crate) const HEAD: [u8; 13] = [b'M', b'O', b'S', 1, 0, 5, 1, 0, 7, 3, 2, 4, 1];
 
 // A head and a record of each kind.
-pub fn every_record(heap: Global) -> Result<Vec<u8>, AllocError> {
+pub(crate) fn every_record(heap: Global) -> Result<Vec<u8>, AllocError> {
     let mut sheet = Vec::from_slice(heap, &HEAD)?;
     sheet.extend_from_slice(b"N\x04a\\b\n")?;
     sheet.extend_from_slice(
@@ -26,7 +26,7 @@ pub fn every_record(heap: Global) -> Result<Vec<u8>, AllocError> {
 }
 
 // A head, this letter, and 20 zero bytes.
-pub fn with_letter(heap: Global, head: &[u8], letter: u8) -> Result<Vec<u8>, AllocError>
+pub(crate) fn with_letter(heap: Global, head: &[u8], letter: u8) -> Result<Vec<u8>, AllocError>
     ensures { λ r. ⌜ made r (λ v. vec-items v ≡ (now (head .entry) ++ letter ∷ []) ++ replicate 20 0) ⌝ }
 {
     let mut sheet = Vec::from_slice(heap, head)?;
@@ -36,7 +36,7 @@ pub fn with_letter(heap: Global, head: &[u8], letter: u8) -> Result<Vec<u8>, All
 }
 
 // The head with another byte at this place.
-pub fn with_byte(head: [u8; 13], at: usize, byte: u8) -> [u8; 13]
+pub(crate) fn with_byte(head: [u8; 13], at: usize, byte: u8) -> [u8; 13]
     requires { ⌜ at < 13 ⌝ }
     ensures { λ r. ⌜ r ≡ set head at byte ⌝ }
 {
@@ -46,7 +46,7 @@ pub fn with_byte(head: [u8; 13], at: usize, byte: u8) -> [u8; 13]
 }
 
 // The head with another number in the two bytes from this place on.
-pub fn with_number(head: [u8; 13], at: usize, number: u16) -> [u8; 13]
+pub(crate) fn with_number(head: [u8; 13], at: usize, number: u16) -> [u8; 13]
     requires { ⌜ at < 12 ⌝ }
     ensures { λ r. ⌜ r ≡ set (set head at (number % 256)) (at + 1) (number / 256) ⌝ }
 {
@@ -63,7 +63,7 @@ fn push_note(sheet: &mut Vec<u8>, len: u8) -> Result<(), AllocError> {
 }
 
 // A head, 127 notes of 255 bytes and a last one: 32,768 bytes where that has 114.
-pub fn filled(heap: Global, last_note: u8) -> Result<Vec<u8>, AllocError> {
+pub(crate) fn filled(heap: Global, last_note: u8) -> Result<Vec<u8>, AllocError> {
     let mut sheet = Vec::from_slice(heap, &HEAD)?;
     for _ in 0..127 {
         push_note(&mut sheet, 255)?;

@@ -3,8 +3,8 @@ use mathlib.Core.Bool.{Bool, not, _&&_}
 use lib.Dec.{eqb}
 use Rattle.protocols.specs.States.{held}
 use Rattle.machine.specs.declared.holding.Way.{Way}
-use Rattle.fabric.specs.declared.search.Wanted.{Wanted}
-use Rattle.fabric.specs.declared.search.Wanted.the-variants.{Block, Empty}
+use Rattle.fabric.specs.declared.lookup.Wanted.{Wanted}
+use Rattle.fabric.specs.declared.lookup.Wanted.the-variants.{Block, Empty}
 
 -- one that holds a block, or one in I
 abbrev pub wants : Wanted → Way → Bool

@@ -2,5 +2,5 @@
 pub mod build;
 pub mod orders;
 pub mod questions;
-mod search;
+mod lookup;
 pub mod state;

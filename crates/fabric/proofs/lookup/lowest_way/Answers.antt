@@ -6,7 +6,7 @@ use Rattle.machine.specs.Holdings.{noWay}
 use Rattle.tables.specs.Grids.{grid}
 use Rattle.fabric.specs.Searches.{wants}
 use Rattle.fabric.proofs.Searches.{lowest-on, lowest-found}
-use Rattle.fabric.proofs.search.lowest_way.Needs as need
+use Rattle.fabric.proofs.lookup.lowest_way.Needs as need
 
 pub returns-then-is-wanted : need.returns-then-is-wanted
 returns-then-is-wanted c =
