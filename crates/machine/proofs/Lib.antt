@@ -1,1 +1,5 @@
 mod Worked
+mod Updates
+mod Keys
+mod Weights
+mod RowLaws
