@@ -3,3 +3,11 @@ mod Updates
 mod Keys
 mod Weights
 mod RowLaws
+mod Ghost
+mod Mailboxes
+mod Invariant
+mod StateFacts
+mod NewFabric
+mod Frames
+mod MailFacts
+mod Promises
