@@ -11,3 +11,8 @@ mod NewFabric
 mod Frames
 mod MailFacts
 mod Promises
+mod StepStore
+mod StepMiss
+mod StepInvalidate
+mod StepMemoryRead
+mod StepWriteback
