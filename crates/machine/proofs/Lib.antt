@@ -16,3 +16,6 @@ mod StepMiss
 mod StepInvalidate
 mod StepMemoryRead
 mod StepWriteback
+mod Filling
+mod StepFill
+mod StepTransfer
