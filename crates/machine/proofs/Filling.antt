@@ -53,7 +53,7 @@ module _ (g : Ghost) (inv : Invariant g) (s : ℕ) (j : Job) (st : Stage) (ws : 
     (others : (c : ℕ) → (c ≡ j .requestor → ⊥) → InRole (record { job = j; stage = Filled }) c (g .entry s c) (g .mailbox s c) (role j c))
     (quiet : (b : ℕ) → setOf (g .geometry) b ≡ s → isReading (g .atMemory b .pending) ≡ false)
     (good : (ws ≡ g .atMemory (j .block) .latest) ⊎ (j .next ≡ M)) where
-  pub r : ℕ
+  r : ℕ
   r = j .requestor
 
   pub fill-keeps : Invariant (afterFill g s j ws)

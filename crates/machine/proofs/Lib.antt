@@ -19,3 +19,6 @@ mod StepWriteback
 mod Filling
 mod StepFill
 mod StepTransfer
+mod AcceptPlan
+mod AcceptEntries
+mod StepAccept

@@ -15,7 +15,7 @@ use Rattle.machine.proofs.Ghost.{Asked, Sent, Filled, Mailbox, Ghost}
 use Rattle.machine.proofs.Mailboxes.{Role, Requestor, Giver, Bystander, role, InRole}
 use Rattle.machine.proofs.Invariant.{GoodJob, Invariant}
 use Rattle.machine.proofs.MailFacts.{requestor-is, requestor-role}
-use Rattle.machine.proofs.Filling.{afterFill, r, fill-keeps}
+use Rattle.machine.proofs.Filling.{afterFill, fill-keeps}
 
 -- the other caches do not tell Sent from Filled
 sent-filled : (j : Job) (a : Role) (c : ℕ) (e : ℕ → Entry) (x : Mailbox) → role j c ≡ a → (c ≡ j .requestor → ⊥) → InRole (record { job = j; stage = Sent }) c e x a → InRole (record { job = j; stage = Filled }) c e x a

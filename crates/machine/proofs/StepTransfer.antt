@@ -30,7 +30,6 @@ use Rattle.machine.proofs.Frames.{Weaker, weaker-same, weaker-none, shrinks, c
 use Rattle.machine.proofs.MailFacts.{requestor-is, requestor-role, job-block}
 use Rattle.machine.proofs.StepMemoryRead.{sentMailbox}
 use Rattle.machine.proofs.StepWriteback.{comingIf, coming-no-read}
-use Rattle.machine.proofs.Filling.{r}
 
 weaker-read-only : (shown : State) (b : ℕ) (e : Entry) → owning shown ≡ true → e .block ≡ b → readOnly (e .state) ≡ true → goTogether (e .state) S ≡ true → goTogether S (e .state) ≡ true → Weaker e (entryIn shown b)
 weaker-read-only shown b e o bl l t u =
