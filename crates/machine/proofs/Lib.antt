@@ -22,3 +22,7 @@ mod StepTransfer
 mod AcceptPlan
 mod AcceptEntries
 mod StepAccept
+mod StepRoundTwo
+mod StepAnswer
+mod StepMemoryWrite
+mod StepClose
