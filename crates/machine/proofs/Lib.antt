@@ -26,3 +26,6 @@ mod StepRoundTwo
 mod StepAnswer
 mod StepMemoryWrite
 mod StepClose
+mod Matches
+mod Counts
+mod Searches

@@ -1,9 +1,11 @@
 -- What the elements of a list weigh together.
-use mathlib.Core.Path.{_≡_}
+use mathlib.Core.Path.{_≡_, refl}
+use mathlib.Core.Bool.{Bool, true, false}
 use mathlib.Core.List.{List, [], _∷_, _++_}
-use Prim.Native.Nat.{ℕ, zero, suc, _+_}
+use Prim.Native.Nat.{ℕ, zero, suc, _+_, _<_}
 use native.Mathlib.Omega.{arith}
 use Rattle.std.specs.Finite.{nth}
+use Rattle.std.specs.shelf.Lists.{kept-by}
 use Rattle.std.specs.declared.option.Option.the-variants.{Some}
 use Rattle.wires.specs.Waiting.{without}
 
@@ -21,3 +23,15 @@ weigh-taken f (y ∷ ys) (suc i) x e = let h = weigh-taken f ys i x e in omega a
 pub weigh-push : {A : Type 0} (f : A → ℕ) (xs : List A) (x : A) → weigh f (xs ++ x ∷ []) ≡ weigh f xs + f x
 weigh-push f [] x = omega arith
 weigh-push f (y ∷ ys) x = let h = weigh-push f ys x in omega arith
+
+-- what weighs nothing has no element that passes
+pub weigh-none : {A : Type 0} (f : A → ℕ) (p : A → Bool) → ((a : A) → p a ≡ true → 0 < f a) → (xs : List A) → weigh f xs ≡ 0 → kept-by p xs ≡ []
+weigh-none f p pos [] e = refl
+weigh-none f p pos (y ∷ ys) e = go (p y) refl (weigh-none f p pos ys (omega arith))
+  where
+    go : (t : Bool) → p y ≡ t → kept-by p ys ≡ [] → kept-by p (y ∷ ys) ≡ []
+    go true i ih = absurd (none (pos y i))
+      where
+        none : 0 < f y → ⊥
+        none l = omega arith
+    go false i ih = rw i ih
