@@ -23,11 +23,12 @@ use Rattle.machine.specs.declared.transaction.Job.{Job}
 use Rattle.machine.specs.Holdings.{noEntry, wayIn, entryIn, blockOf}
 use Rattle.machine.specs.Coherence.{Agrees}
 use Rattle.machine.proofs.Updates.{update, update₂, update₃, update-each, update₂-each, update-both, update-here, update-there, update₂-there, update₃-here}
-use Rattle.machine.proofs.Ghost.{Stage, Sent, Filled, Progress, To, From, Mailbox, Waiter, BlockAtMemory, Ghost}
+use Rattle.machine.proofs.Ghost.{Stage, Sent, Filled, Progress, atStage, To, From, Mailbox, Waiter, BlockAtMemory, Ghost}
 use Rattle.machine.proofs.Mailboxes.{Requestor, role, readOnly, BeforeFill, InRole, GoodMailbox}
 use Rattle.machine.proofs.Invariant.{AllApart, AtHome, GoodJob, GoodProgress, unfilled, serves, Served, Asks, GoodWait, InRange, GoodPlace, isReading, GoodPending, GoodMail, DirtyOnTheWay, Newest, Invariant}
 use Rattle.machine.proofs.StateFacts.{shows-held, writable-alone, held-entry, agrees-in, way-is}
-use Rattle.machine.proofs.Frames.{agrees-after, copies-after, no-answer, newest-progress, newest-way}
+use Rattle.machine.proofs.Frames.{agrees-after, copies-after, no-answer, newest-way}
+use Rattle.machine.proofs.BlockFrames.{newest-way-after}
 use Rattle.machine.proofs.MailFacts.{DataFacts, data-facts, requestor-is, requestor-role, filled-at}
 
 -- the requestor goes by its final entry, and answers Coherence Ack
@@ -37,7 +38,7 @@ filledMailbox j x = record { known = update (x .known) (j .way) (entryIn (j .nex
 -- the set is at Filled, the way has the words, they are the latest, and the cache waits no more
 abbrev pub afterFill : Ghost → ℕ → Job → Words → Ghost
 afterFill g s j ws = record { geometry = g .geometry; entry = g .entry; way = update₃ (g .way) s (j .requestor) (j .way) (wayIn (j .next) (j .block) ws);
-  mailbox = update₂ (g .mailbox) s (j .requestor) (filledMailbox j (g .mailbox s (j .requestor))); progress = update (g .progress) s (Some (record { job = j; stage = Filled }));
+  mailbox = update₂ (g .mailbox) s (j .requestor) (filledMailbox j (g .mailbox s (j .requestor))); progress = update (g .progress) s (Some (atStage Filled j));
   waiter = update (g .waiter) (j .requestor) (record { kept = None; request = None });
   atMemory = update (g .atMemory) (j .block) (record { memory = g .atMemory (j .block) .memory; pending = g .atMemory (j .block) .pending; latest = ws }) }
 
@@ -47,10 +48,10 @@ same-holds f h e ex c w d x = rw (← e c w, ← e d x) (ex c w d x)
 
 -- the requestor's way is filled with words: the latest ones, or, where it has M, whatever a store makes of them
 module _ (g : Ghost) (inv : Invariant g) (s : ℕ) (j : Job) (st : Stage) (ws : Words)
-    (h : g .progress s ≡ Some (record { job = j; stage = st })) (un : unfilled st ≡ true)
+    (h : g .progress s ≡ Some (atStage st j)) (un : unfilled st ≡ true)
     (self : (g .entry s (j .requestor) (j .way) ≡ entryIn (j .next) (j .block)) × ((w : ℕ) → (w ≡ j .way → ⊥) → g .entry s (j .requestor) w ≡ g .mailbox s (j .requestor) .known w))
     (before : BeforeFill j (g .mailbox s (j .requestor) .known (j .way)))
-    (others : (c : ℕ) → (c ≡ j .requestor → ⊥) → InRole (record { job = j; stage = Filled }) c (g .entry s c) (g .mailbox s c) (role j c))
+    (others : (c : ℕ) → (c ≡ j .requestor → ⊥) → InRole (atStage Filled j) c (g .entry s c) (g .mailbox s c) (role j c))
     (quiet : (b : ℕ) → setOf (g .geometry) b ≡ s → isReading (g .atMemory b .pending) ≡ false)
     (good : (ws ≡ g .atMemory (j .block) .latest) ⊎ (j .next ≡ M)) where
   r : ℕ
@@ -76,16 +77,10 @@ module _ (g : Ghost) (inv : Invariant g) (s : ℕ) (j : Job) (st : Stage) (ws : 
     pendingRanges = λ b. rw (pend b) (inv .pendingRanges b);
     copies = copies-after g (update (g .atMemory) (j .block) k) s r (j .way) v (λ q. let wi = way-is (j .next) (j .block) ws (ok .gets) in rw (wi .1, wi .2) (sym (ap (λ z. z .latest) (update-here (g .atMemory) (j .block) k)))) (λ t d w n q. inv .copies t d w q ∙ cur (g .way t d w .block) (λ e m. clash t d w n q e m));
     mails = update₂-each (λ t c z. GoodMail (update (g .atMemory) (j .block) k) (z .mail)) (g .mailbox) s r y (λ _ _ _ _ _ _ q. absurd (no-answer q)) (λ t c n d b w a us sender q. inv .mails t c d b w a us sender q ∙ cur b (λ e _. no-other t c n d b w a us sender q e));
-    newest = λ b. update-each (λ t z. setOf (g .geometry) b ≡ t → Newest (update₃ (g .way) s r (j .way) v t) z b (update (g .atMemory) (j .block) k b)) (g .progress) s (Some now)
-        (λ e. update-each (λ a z. setOf (g .geometry) a ≡ s → Newest (update₃ (g .way) s r (j .way) v s) (Some now) a z) (g .atMemory) (j .block) k (λ _. newest-here (dirty (j .next)) refl)
-          (λ a n q. newest-way (g .way) s r (j .way) v s (Some now) a (g .atMemory a) (newest-progress (g .way s) (g .progress s) (Some now) a (g .atMemory a) (λ u. n (sym (u .block) ∙ sym (ap (λ z. z .block) (same-job u)))) (rw q at (inv .newest a)))
-            (λ _ x z. absurd (n (sym z ∙ before-place x .1)))) b e)
-        (λ t n e. update-each (λ a z. setOf (g .geometry) a ≡ t → Newest (update₃ (g .way) s r (j .way) v t) (g .progress t) a z) (g .atMemory) (j .block) k (λ q. absurd (n (sym q ∙ ok .here)))
-          (λ a _ q. newest-way (g .way) s r (j .way) v t (g .progress t) a (g .atMemory a) (rw q at (inv .newest a)) (λ z. absurd (n z))) b e)
-        (setOf (g .geometry) b) refl }
+    newest = newest-way-after g inv s (j .block) now k (ok .here) (λ i n u. n (sym (u .block) ∙ sym (ap (λ z. z .block) (same-job u)))) r (j .way) v (λ x. before-place x .1) (newest-here (dirty (j .next)) refl) }
     where
       now : Progress
-      now = record { job = j; stage = Filled }
+      now = atStage Filled j
       y : Mailbox
       y = filledMailbox j (g .mailbox s r)
       v : Way
@@ -127,7 +122,7 @@ module _ (g : Ghost) (inv : Invariant g) (s : ℕ) (j : Job) (st : Stage) (ws : 
           let o : DataFacts (g .progress t) c (g .entry t c) (g .mailbox t c) d b w a = data-facts (g .progress t) c (g .entry t c) (g .mailbox t c) d b w a us sender q (inv .mailboxes t c) in
           let okt : GoodJob (g .geometry) t (g .entry t) (o .job) = rw (o .progress) at (inv .jobs t) in
           let ts : t ≡ s = sym (okt .here) ∙ ap (setOf (g .geometry)) (sym (o .block) ∙ e) ∙ ok .here in
-          let jj : _≡_ {A = Progress} (record { job = j; stage = st }) (record { job = o .job; stage = Sent }) = cc (ts, h, o .progress) in
+          let jj : _≡_ {A = Progress} (atStage st j) (atStage Sent (o .job)) = cc (ts, h, o .progress) in
           n ts (requestor-is (o .job) c (o .isRequestor) ∙ ap (λ z. z .job .requestor) (sym jj))
       served : Served j (g .waiter r)
       served = rw (un, eq-eqb r r refl) at (rw h at (inv .waits s r))
@@ -142,7 +137,7 @@ module _ (g : Ghost) (inv : Invariant g) (s : ℕ) (j : Job) (st : Stage) (ws : 
               absurd (n (sym (okt .here) ∙ ap (setOf (g .geometry)) (sym (u .block) ∙ ap blockOf oo ∙ served .block) ∙ ok .here))
           go false u = λ o e. grind arith
       same-job : {a : ℕ} → (u : DirtyOnTheWay (g .progress s) a) → j ≡ u .job
-      same-job u = let e : _≡_ {A = Progress} (record { job = j; stage = st }) (record { job = u .job; stage = Sent }) = cc (h, u .sent) in ap (λ z. z .job) e
+      same-job u = let e : _≡_ {A = Progress} (atStage st j) (atStage Sent (u .job)) = cc (h, u .sent) in ap (λ z. z .job) e
       before-place : dirty (g .way s r (j .way) .state) ≡ true → (j .upgrade ≡ true) × (g .way s r (j .way) .block ≡ j .block)
       before-place x = go (j .upgrade) refl before
         where

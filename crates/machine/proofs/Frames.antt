@@ -18,7 +18,7 @@ use Rattle.machine.specs.declared.transaction.Job.{Job}
 use Rattle.machine.specs.Holdings.{noEntry}
 use Rattle.machine.specs.Coherence.{Agrees}
 use Rattle.machine.proofs.Updates.{update, update₂, update₃, update-each, update₂-each, update₂-both}
-use Rattle.machine.proofs.Ghost.{Stage, Sent, Progress, Nothing, To, From, Mailbox, BlockAtMemory, Ghost}
+use Rattle.machine.proofs.Ghost.{Stage, Sent, Progress, atStage, Nothing, To, From, Mailbox, BlockAtMemory, Ghost}
 use Rattle.machine.proofs.Mailboxes.{readOnly}
 use Rattle.machine.proofs.Invariant.{goTogether, AllApart, AtHome, GoodPlace, GoodCopy, DirtyCopy, DirtyOnTheWay, Newest, Invariant}
 
@@ -90,8 +90,8 @@ no-mail-to e = let z : _≡_ {A = ℕ} 0 1 = cc in omega arith
 pub newest-progress : (v : ℕ → ℕ → Way) (h i : Option Progress) (b : ℕ) (k : BlockAtMemory) → (DirtyOnTheWay h b → ⊥) → Newest v h b k → Newest v i b k
 newest-progress v h i b k n f = elim f [ inl q ↦ inl q | inr q ↦ inr (elim q [ inl u ↦ inl u | inr u ↦ absurd (n u) ]) ]
 
-pub not-sent : (j : Job) (s : Stage) (b : ℕ) → (s ≡ Sent → ⊥) → DirtyOnTheWay (Some (record { job = j; stage = s })) b → ⊥
-not-sent j s b n q = let e : _≡_ {A = Progress} (record { job = j; stage = s }) (record { job = q .job; stage = Sent }) = cc in n (ap (λ z. z .stage) e)
+pub not-sent : (j : Job) (s : Stage) (b : ℕ) → (s ≡ Sent → ⊥) → DirtyOnTheWay (Some (atStage s j)) b → ⊥
+not-sent j s b n q = let e : _≡_ {A = Progress} (atStage s j) (atStage Sent (q .job)) = cc in n (ap (λ z. z .stage) e)
 
 -- one way changes: it matters only where it was the dirty copy itself
 pub newest-way : (f : ℕ → ℕ → ℕ → Way) (s c p : ℕ) (v : Way) (t : ℕ) (h : Option Progress) (b : ℕ) (k : BlockAtMemory) → Newest (f t) h b k

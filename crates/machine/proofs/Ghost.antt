@@ -28,6 +28,9 @@ pub record Progress : Type 0 where
   pub job : Job
   pub stage : Stage
 
+abbrev pub atStage : Stage → Job → Progress
+atStage st j = record { job = j; stage = st }
+
 -- the one message between a cache and the directory: none, a command to the cache, or a response from it
 pub data Mail : Type 0 where
   Nothing : Mail

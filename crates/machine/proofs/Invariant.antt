@@ -24,7 +24,7 @@ use Rattle.machine.specs.declared.transaction.Job.{Job}
 use Rattle.machine.specs.Holdings.{noEntry, blockOf, accessOf, isWrite}
 use Rattle.machine.specs.Directory.{sharing}
 use Rattle.machine.specs.Coherence.{Agrees}
-use Rattle.machine.proofs.Ghost.{Stage, Evicting, Clearing, Asked, Sent, Filled, Progress, Mail, To, Mailbox, Waiter, Pending, Idle, Reading, Coming, Waiting, BlockAtMemory, Ghost}
+use Rattle.machine.proofs.Ghost.{Stage, Evicting, Clearing, Asked, Sent, Filled, Progress, atStage, Mail, To, Mailbox, Waiter, Pending, Idle, Reading, Coming, Waiting, BlockAtMemory, Ghost}
 use Rattle.machine.proofs.Mailboxes.{readOnly, GoodMailbox}
 
 -- ---- entries, and copies as the caches know them, exclude one another
@@ -164,7 +164,7 @@ pub record DirtyCopy (v : ℕ → ℕ → Way) (b : ℕ) : Type 0 where
 -- words of block b on their way to a requestor that will hold them dirty
 pub record DirtyOnTheWay (h : Option Progress) (b : ℕ) : Type 0 where
   pub job : Job
-  pub sent : h ≡ Some (record { job = job; stage = Sent })
+  pub sent : h ≡ Some (atStage Sent job)
   pub state : dirty (job .next) ≡ true
   pub block : job .block ≡ b
 

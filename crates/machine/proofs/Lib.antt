@@ -9,6 +9,7 @@ mod Invariant
 mod StateFacts
 mod NewFabric
 mod Frames
+mod BlockFrames
 mod MailFacts
 mod Promises
 mod StepStore

@@ -14,7 +14,7 @@ use Rattle.messages.specs.declared.command.Command.the-variants.{SetTagData}
 use Rattle.machine.specs.declared.holding.Entry.{Entry}
 use Rattle.machine.specs.declared.transaction.Job.{Job}
 use Rattle.machine.specs.Holdings.{entryIn}
-use Rattle.machine.proofs.Ghost.{Stage, Evicting, Clearing, Asked, Sent, Filled, Progress, To, Mailbox, Ghost}
+use Rattle.machine.proofs.Ghost.{Stage, Evicting, Clearing, Asked, Sent, Filled, Progress, atStage, To, Mailbox, Ghost}
 use Rattle.machine.proofs.Mailboxes.{Role, Requestor, Giver, Bystander, role, BeforeFill, InRole, GoodMailbox}
 use Rattle.machine.proofs.Invariant.{GoodJob, Invariant}
 use Rattle.machine.proofs.StateFacts.{held-entry}
@@ -22,7 +22,7 @@ use Rattle.machine.proofs.StateFacts.{held-entry}
 -- data for way w of cache d, in the mail of cache c
 pub record DataFacts (h : Option Progress) (c : ℕ) (e : ℕ → Entry) (x : Mailbox) (d b w : ℕ) (st : State) : Type 0 where
   pub job : Job
-  pub progress : h ≡ Some (record { job = job; stage = Sent })
+  pub progress : h ≡ Some (atStage Sent job)
   pub isRequestor : role job c ≡ Requestor
   pub block : b ≡ job .block
   pub way : w ≡ job .way
@@ -31,7 +31,7 @@ pub record DataFacts (h : Option Progress) (c : ℕ) (e : ℕ → Entry) (x : Ma
   pub before : BeforeFill job (x .known (job .way))
 
 data-at : (j : Job) (s : Stage) (a : Role) (c : ℕ) (e : ℕ → Entry) (x : Mailbox) (d b w : ℕ) (st : State) (ws : Words) (sender : Party) → x .mail ≡ To (SetTagData d b w st ws sender)
-    → role j c ≡ a → InRole (record { job = j; stage = s }) c e x a → DataFacts (Some (record { job = j; stage = s })) c e x d b w st
+    → role j c ≡ a → InRole (atStage s j) c e x a → DataFacts (Some (atStage s j)) c e x d b w st
 data-at j Evicting Requestor c e x d b w st ws sender m i ok = grind arith
 data-at j Clearing Requestor c e x d b w st ws sender m i ok = grind arith
 data-at j Asked Requestor c e x d b w st ws sender m i ok = grind arith
@@ -55,7 +55,7 @@ data-facts None c e x d b w st ws sender m ok = grind arith
 data-facts (Some h) c e x d b w st ws sender m ok = data-at (h .job) (h .stage) (role (h .job) c) c e x d b w st ws sender m refl ok
 
 -- once the words are on their way, only the requestor's way differs from its entry
-pub sent-at : (j : Job) (a : Role) (c : ℕ) (e : ℕ → Entry) (x : Mailbox) → InRole (record { job = j; stage = Sent }) c e x a → (w : ℕ) → (a ≡ Requestor → w ≡ j .way → ⊥) → e w ≡ x .known w
+pub sent-at : (j : Job) (a : Role) (c : ℕ) (e : ℕ → Entry) (x : Mailbox) → InRole (atStage Sent j) c e x a → (w : ℕ) → (a ≡ Requestor → w ≡ j .way → ⊥) → e w ≡ x .known w
 sent-at j Requestor c e x ok w n = ok .1 w (n refl)
 sent-at j (Giver p shown keeps writeback) c e x ok w n = ⊎-elim (λ i. rw i (ok .2 .0)) (λ i. ok .1 w i) (cases-eq w p)
 sent-at j Bystander c e x ok w n = ok .0 w
@@ -67,22 +67,22 @@ pub requestor-role : (j : Job) → role j (j .requestor) ≡ Requestor
 requestor-role j = rw (eq-eqb (j .requestor) (j .requestor) refl)
 
 -- a mailbox, with the set's progress and the cache's role as they are
-pub mailbox-at : (h : Option Progress) (j : Job) (s : Stage) (a : Role) (c : ℕ) (e : ℕ → Entry) (x : Mailbox) → h ≡ Some (record { job = j; stage = s }) → role j c ≡ a → GoodMailbox h c e x
-    → InRole (record { job = j; stage = s }) c e x a
+pub mailbox-at : (h : Option Progress) (j : Job) (s : Stage) (a : Role) (c : ℕ) (e : ℕ → Entry) (x : Mailbox) → h ≡ Some (atStage s j) → role j c ≡ a → GoodMailbox h c e x
+    → InRole (atStage s j) c e x a
 mailbox-at h j s a c e x i r ok = rw r at (rw i at ok)
 
 -- after the fill every cache knows its entries
-pub filled-at : (j : Job) (a : Role) (c : ℕ) (e : ℕ → Entry) (x : Mailbox) → InRole (record { job = j; stage = Filled }) c e x a → (w : ℕ) → e w ≡ x .known w
+pub filled-at : (j : Job) (a : Role) (c : ℕ) (e : ℕ → Entry) (x : Mailbox) → InRole (atStage Filled j) c e x a → (w : ℕ) → e w ≡ x .known w
 filled-at j Requestor c e x ok w = ⊎-elim (λ i. rw i (ok .2 .0)) (λ i. ok .1 w i) (cases-eq w (j .way))
 filled-at j (Giver p shown keeps writeback) c e x ok w = ⊎-elim (λ i. rw i (ok .2 .0)) (λ i. ok .1 w i) (cases-eq w p)
 filled-at j Bystander c e x ok w = ok .0 w
 
 -- the block of a job is one that there is
-pub job-block : (g : Ghost) → Invariant g → (s : ℕ) (j : Job) (st : Stage) → g .progress s ≡ Some (record { job = j; stage = st }) → j .block < g .geometry .blocks
+pub job-block : (g : Ghost) → Invariant g → (s : ℕ) (j : Job) (st : Stage) → g .progress s ≡ Some (atStage st j) → j .block < g .geometry .blocks
 job-block g inv s j st h =
     let r : ℕ = j .requestor in
     let ok : GoodJob (g .geometry) s (g .entry s) j = rw h at (inv .jobs s) in
-    let me : InRole (record { job = j; stage = st }) r (g .entry s r) (g .mailbox s r) Requestor =
+    let me : InRole (atStage st j) r (g .entry s r) (g .mailbox s r) Requestor =
           mailbox-at (g .progress s) j st Requestor r (g .entry s r) (g .mailbox s r) h (requestor-role j) (inv .mailboxes s r) in
     let en = held-entry (j .next) (j .block) (ok .gets) in
     subst (λ b. b < g .geometry .blocks) (ap (λ e. e .block) (me .0) ∙ en .1) (inv .entriesHome s r (j .way) (rw (me .0, en .0) (ok .gets)) .3)

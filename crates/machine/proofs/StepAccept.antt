@@ -26,7 +26,7 @@ use Rattle.machine.specs.Directory.{sharing}
 use Rattle.machine.specs.Acceptance.{dismissed}
 use Rattle.machine.specs.Coherence.{Agrees}
 use Rattle.machine.proofs.Updates.{update, update-each, update₂-each, update-both, update-here, update-there, update₂-here, update₂-there}
-use Rattle.machine.proofs.Ghost.{Stage, Evicting, Clearing, Progress, Mail, Nothing, To, Mailbox, Waiter, Pending, Idle, Ghost}
+use Rattle.machine.proofs.Ghost.{Stage, Evicting, Clearing, Progress, atStage, Mail, Nothing, To, Mailbox, Waiter, Pending, Idle, Ghost}
 use Rattle.machine.proofs.Mailboxes.{Role, Requestor, Giver, Bystander, role, SameEntries, NoCommand, AsRequestor, AsGiver, Dismissed, AsBystander, InRole, GoodMailbox}
 use Rattle.machine.proofs.Invariant.{AllApart, AtHome, Blank, GoodSource, GoodJob, GoodProgress, unfilled, serves, Served, Asks, GoodWait, InRange, GoodPlace, PendingAt, GoodPending, GoodMail, DirtyOnTheWay, Newest, Invariant}
 use Rattle.machine.proofs.StateFacts.{owning-held, read-only-held, held-entry}
@@ -46,7 +46,7 @@ module _ (g : Ghost) (inv : Invariant g) (s : ℕ) (j : Job) (st : Stage) (mail 
     (room : (j .requestor < g .geometry .caches) × (j .way < g .geometry .ways) × (j .block < g .geometry .blocks)) where
 
   abbrev now : Progress
-  now = record { job = j; stage = st }
+  now = atStage st j
   abbrev f : ℕ → ℕ → Entry
   f = g .entry s
   abbrev mailboxesNow : ℕ → Mailbox

@@ -10,7 +10,7 @@ use Rattle.machine.specs.declared.holding.Entry.{Entry}
 use Rattle.machine.specs.declared.transaction.Job.{Job}
 use Rattle.machine.specs.Coherence.{Agrees}
 use Rattle.machine.proofs.Updates.{update₂-each}
-use Rattle.machine.proofs.Ghost.{Stage, Evicting, Clearing, Asked, Sent, Filled, Progress, Nothing, From, Mailbox, Ghost, setMailbox}
+use Rattle.machine.proofs.Ghost.{Stage, Evicting, Clearing, Asked, Sent, Filled, Progress, atStage, Nothing, From, Mailbox, Ghost, setMailbox}
 use Rattle.machine.proofs.Mailboxes.{Role, Requestor, Giver, Bystander, role, InRole, GoodMailbox}
 use Rattle.machine.proofs.Invariant.{GoodMail, Invariant}
 use Rattle.machine.proofs.Frames.{Weaker, weaker-same, copies-apart-after, copies-home-after, places-after, no-mail-to}
@@ -19,7 +19,7 @@ abbrev pub emptied : Mailbox → Mailbox
 emptied x = record { known = x .known; mail = Nothing }
 
 emptied-at : (j : Job) (s : Stage) (a : Role) (c : ℕ) (e : ℕ → Entry) (x : Mailbox) (r : Response) → x .mail ≡ From r
-    → InRole (record { job = j; stage = s }) c e x a → InRole (record { job = j; stage = s }) c e (emptied x) a
+    → InRole (atStage s j) c e x a → InRole (atStage s j) c e (emptied x) a
 emptied-at j Evicting Requestor c e x r m ok = grind arith
 emptied-at j Clearing Requestor c e x r m ok = (ok .0, ok .1, elim (ok .2) [ inl q ↦ inl (q .0, inl refl) | inr q ↦ grind arith ])
 emptied-at j Asked Requestor c e x r m ok = grind arith

@@ -7,12 +7,12 @@ use Rattle.std.specs.declared.option.Option.the-variants.{Some, None}
 use Rattle.bedrock.specs.Geometries.{setOf}
 use Rattle.machine.specs.declared.transaction.Job.{Job}
 use Rattle.machine.proofs.Updates.{update-each}
-use Rattle.machine.proofs.Ghost.{Filled, Nothing, Idle, Ghost, setProgress}
+use Rattle.machine.proofs.Ghost.{Filled, atStage, Nothing, Idle, Ghost, setProgress}
 use Rattle.machine.proofs.Mailboxes.{role, GoodMailbox}
 use Rattle.machine.proofs.Invariant.{GoodProgress, GoodWait, GoodPending, Newest, Invariant}
 use Rattle.machine.proofs.MailFacts.{filled-at}
 
-pub close-keeps : (g : Ghost) → Invariant g → (s : ℕ) (j : Job) → g .progress s ≡ Some (record { job = j; stage = Filled }) → ((c : ℕ) → g .mailbox s c .mail ≡ Nothing)
+pub close-keeps : (g : Ghost) → Invariant g → (s : ℕ) (j : Job) → g .progress s ≡ Some (atStage Filled j) → ((c : ℕ) → g .mailbox s c .mail ≡ Nothing)
     → ((b : ℕ) → setOf (g .geometry) b ≡ s → g .atMemory b .pending ≡ Idle) → Invariant (setProgress g s None)
 close-keeps g inv s j h quiet idle = record {
   mailboxes = update-each (λ t z. (c : ℕ) → GoodMailbox z c (g .entry t c) (g .mailbox t c)) (g .progress) s None (λ c. (filled-at j (role j c) c (g .entry s c) (g .mailbox s c) (rw h at (inv .mailboxes s c)), quiet c)) (λ t _. inv .mailboxes t);

@@ -17,7 +17,7 @@ use Rattle.machine.specs.Holdings.{noWay, noEntry}
 use Rattle.machine.specs.Coherence.{Agrees}
 use Rattle.machine.proofs.Updates.{update, update-each, update₂-each, update-both, update-here, update-there}
 use Rattle.machine.proofs.RowLaws.{surelyClean}
-use Rattle.machine.proofs.Ghost.{Stage, Evicting, Clearing, Asked, Sent, Filled, Progress, To, From, Mailbox, Ghost, setWay, setMailbox}
+use Rattle.machine.proofs.Ghost.{Stage, Evicting, Clearing, Asked, Sent, Filled, Progress, atStage, To, From, Mailbox, Ghost, setWay, setMailbox}
 use Rattle.machine.proofs.Mailboxes.{Role, Requestor, Giver, Bystander, role, InRole, GoodMailbox}
 use Rattle.machine.proofs.Invariant.{GoodMail, Invariant}
 use Rattle.machine.proofs.StateFacts.{surely-clean-is}
@@ -29,21 +29,21 @@ droppedMailbox x p r = record { known = update (x .known) p noEntry; mail = From
 
 -- the requestor lets go of the block that its way had
 victim-drops : (j : Job) (c : ℕ) (e : ℕ → Entry) (x : Mailbox) (d b p : ℕ) (r : Response) → x .mail ≡ To (Invalidate d b p)
-    → InRole (record { job = j; stage = Clearing }) c e x Requestor → (surelyClean (x .known p .state) ≡ true) × InRole (record { job = j; stage = Clearing }) c e (droppedMailbox x p r) Requestor
+    → InRole (atStage Clearing j) c e x Requestor → (surelyClean (x .known p .state) ≡ true) × InRole (atStage Clearing j) c e (droppedMailbox x p r) Requestor
 victim-drops j c e x d b p r m ok = elim (ok .2) [ inl q ↦ grind arith
     | inr l ↦ let pw : p ≡ j .way = cc (m, l .out) in
         (rw pw (l .state), (ok .0, (λ w n. ok .1 w n ∙ sym (update-there (x .known) p noEntry w (rw pw n))), inl (rw (l .noUpgrade, pw) (update-here (x .known) (j .way) noEntry), inr (r, refl)))) ]
 
 -- a sharer lets go of a block that is written
 sharer-drops : (j : Job) (c : ℕ) (e : ℕ → Entry) (x : Mailbox) (d b p : ℕ) (r : Response) → x .mail ≡ To (Invalidate d b p)
-    → InRole (record { job = j; stage = Clearing }) c e x Bystander → (surelyClean (x .known p .state) ≡ true) × InRole (record { job = j; stage = Clearing }) c e (droppedMailbox x p r) Bystander
+    → InRole (atStage Clearing j) c e x Bystander → (surelyClean (x .known p .state) ≡ true) × InRole (atStage Clearing j) c e (droppedMailbox x p r) Bystander
 sharer-drops j c e x d b p r m ok = elim ok [ inl q ↦ grind arith
     | inr l ↦ let pw : p ≡ l .place = cc (m, l .out) in
         (rw (pw, l .shown) refl, inl (update-each (λ w o. e w ≡ o) (x .known) p noEntry (rw pw (l .final)) (λ w n. l .rest w (rw pw at n)), inr (r, refl))) ]
 
 -- nobody else has an Invalidate in the mail; what is let go of was surely clean
 pub drops-at : (j : Job) (st : Stage) (a : Role) (c : ℕ) (e : ℕ → Entry) (x : Mailbox) (d b p : ℕ) (r : Response) → x .mail ≡ To (Invalidate d b p)
-    → InRole (record { job = j; stage = st }) c e x a → (surelyClean (x .known p .state) ≡ true) × InRole (record { job = j; stage = st }) c e (droppedMailbox x p r) a
+    → InRole (atStage st j) c e x a → (surelyClean (x .known p .state) ≡ true) × InRole (atStage st j) c e (droppedMailbox x p r) a
 drops-at j Evicting Requestor c e x d b p r m ok = grind arith
 drops-at j Clearing Requestor c e x d b p r m ok = victim-drops j c e x d b p r m ok
 drops-at j Asked Requestor c e x d b p r m ok = grind arith

@@ -11,7 +11,6 @@ use Rattle.std.proofs.shelf.Ways.{tells}
 use Rattle.bedrock.specs.declared.words.Words.{Words}
 use Rattle.bedrock.specs.declared.party.Party.{Party}
 use Rattle.bedrock.specs.declared.party.Party.the-variants.{Directory}
-use Rattle.bedrock.specs.Geometries.{setOf}
 use Rattle.protocols.specs.declared.state.State.{State}
 use Rattle.protocols.specs.declared.state.State.the-variants.{S}
 use Rattle.protocols.specs.States.{held, dirty}
@@ -23,29 +22,30 @@ use Rattle.machine.specs.declared.transaction.Job.{Job}
 use Rattle.machine.specs.Holdings.{entryIn}
 use Rattle.machine.specs.Coherence.{Agrees}
 use Rattle.machine.proofs.Updates.{update, update₂, update-each, update₂-each, update-both}
-use Rattle.machine.proofs.Ghost.{Stage, Evicting, Clearing, Asked, Sent, Filled, Progress, To, Mailbox, Idle, Reading, BlockAtMemory, Ghost}
+use Rattle.machine.proofs.Ghost.{Stage, Evicting, Clearing, Asked, Sent, Filled, Progress, atStage, To, Mailbox, Idle, Reading, BlockAtMemory, Ghost}
 use Rattle.machine.proofs.Mailboxes.{Role, Requestor, Giver, Bystander, role, InRole, GoodMailbox}
-use Rattle.machine.proofs.Invariant.{GoodJob, GoodProgress, GoodWait, isReading, readFor, PendingAt, GoodPending, PendingInRange, GoodMail, DirtyOnTheWay, Newest, Invariant}
+use Rattle.machine.proofs.Invariant.{GoodJob, GoodProgress, GoodWait, readFor, PendingAt, GoodPending, GoodMail, DirtyOnTheWay, Invariant}
 use Rattle.machine.proofs.StateFacts.{shows-held, surely-clean-is, dirty-held, held-entry}
-use Rattle.machine.proofs.Frames.{Weaker, weaker-same, copies-apart-after, copies-home-after, places-after, newest-progress, not-sent}
+use Rattle.machine.proofs.Frames.{Weaker, weaker-same, copies-apart-after, copies-home-after, places-after, not-sent}
+use Rattle.machine.proofs.BlockFrames.{pendings-after, newest-after, pending-ranges-after, latest-same}
 use Rattle.machine.proofs.MailFacts.{requestor-is, requestor-role}
 
 -- what a memory read on its way tells of the set
 pub record ReadFacts (h : Option Progress) (b c w : ℕ) (st : State) : Type 0 where
   pub job : Job
-  pub progress : h ≡ Some (record { job = job; stage = Asked })
+  pub progress : h ≡ Some (atStage Asked job)
   pub block : b ≡ job .block
   pub source : job .source ≡ Memory
   pub cache : c ≡ job .requestor
   pub way : w ≡ job .way
   pub next : st ≡ job .next
 
-read-at : (s : Stage) (j : Job) (b c w : ℕ) (st : State) → PendingAt s j b (Reading c w st) → ReadFacts (Some (record { job = j; stage = s })) b c w st
+read-at : (s : Stage) (j : Job) (b c w : ℕ) (st : State) → PendingAt s j b (Reading c w st) → ReadFacts (Some (atStage s j)) b c w st
 read-at Evicting j b c w st ok = grind arith
 read-at Clearing j b c w st ok = grind arith
 read-at Asked j b c w st ok = ⊎-elim (λ e. go e (j .source) refl (ok .0 e)) (λ n. absurd (false≢true (sym (ok .1 n)))) (cases-eq b (j .block))
   where
-    go : b ≡ j .block → (r : Source) → j .source ≡ r → Reading c w st ≡ readFor j r → ReadFacts (Some (record { job = j; stage = Asked })) b c w st
+    go : b ≡ j .block → (r : Source) → j .source ≡ r → Reading c w st ≡ readFor j r → ReadFacts (Some (atStage Asked j)) b c w st
     go e Memory i q = record { job = j; progress = refl; block = e; source = i; cache = cc; way = cc; next = cc }
     go e OwnCopy i q = grind arith
     go e (Owner o p shown keeps writeback) i q = grind arith
@@ -65,18 +65,18 @@ abbrev pub sentMailbox : Job → Mailbox → Words → Party → Mailbox
 sentMailbox j x ws sender = record { known = x .known; mail = To (SetTagData (j .requestor) (j .block) (j .way) (j .next) ws sender) }
 
 -- with the words to come from memory, only the requestor's way differs from its entry
-asked-same : (j : Job) (a : Role) (c : ℕ) (e : ℕ → Entry) (x : Mailbox) → j .source ≡ Memory → role j c ≡ a → InRole (record { job = j; stage = Asked }) c e x a → (w : ℕ) → (c ≡ j .requestor → w ≡ j .way → ⊥) → e w ≡ x .known w
+asked-same : (j : Job) (a : Role) (c : ℕ) (e : ℕ → Entry) (x : Mailbox) → j .source ≡ Memory → role j c ≡ a → InRole (atStage Asked j) c e x a → (w : ℕ) → (c ≡ j .requestor → w ≡ j .way → ⊥) → e w ≡ x .known w
 asked-same j Requestor c e x m r ok w n = ok .1 w (n (requestor-is j c r))
 asked-same j (Giver p shown keeps writeback) c e x m r ok w n = absurd (no-owner j c p shown keeps writeback m r)
 asked-same j Bystander c e x m r ok w n = ok .0 w
 
-sent-other : (j : Job) (a : Role) (c : ℕ) (e : ℕ → Entry) (x : Mailbox) → j .source ≡ Memory → role j c ≡ a → (c ≡ j .requestor → ⊥) → InRole (record { job = j; stage = Asked }) c e x a → InRole (record { job = j; stage = Sent }) c e x a
+sent-other : (j : Job) (a : Role) (c : ℕ) (e : ℕ → Entry) (x : Mailbox) → j .source ≡ Memory → role j c ≡ a → (c ≡ j .requestor → ⊥) → InRole (atStage Asked j) c e x a → InRole (atStage Sent j) c e x a
 sent-other j Requestor c e x m r n ok = absurd (n (requestor-is j c r))
 sent-other j (Giver p shown keeps writeback) c e x m r n ok = absurd (no-owner j c p shown keeps writeback m r)
 sent-other j Bystander c e x m r n ok = ok
 
 -- no copy of the block is dirty while the memory is asked
-no-dirty-copy : (g : Ghost) → Invariant g → (s : ℕ) (j : Job) → g .progress s ≡ Some (record { job = j; stage = Asked }) → j .source ≡ Memory
+no-dirty-copy : (g : Ghost) → Invariant g → (s : ℕ) (j : Job) → g .progress s ≡ Some (atStage Asked j) → j .source ≡ Memory
     → (c w : ℕ) → dirty (g .way s c w .state) ≡ true → g .way s c w .block ≡ j .block → ⊥
 no-dirty-copy g inv s j h m c w di at = go (cases-eq c r) (cases-eq w (j .way))
   where
@@ -92,7 +92,7 @@ no-dirty-copy g inv s j h m c w di at = go (cases-eq c r) (cases-eq w (j .way))
     bl = inv .agrees s c w .block ∙ at
     same : (c ≡ r → w ≡ j .way → ⊥) → g .entry s c w ≡ g .mailbox s c .known w
     same n = asked-same j (role j c) c (g .entry s c) (g .mailbox s c) m refl (rw h at (inv .mailboxes s c)) w n
-    self : InRole (record { job = j; stage = Asked }) r (g .entry s r) (g .mailbox s r) Requestor
+    self : InRole (atStage Asked j) r (g .entry s r) (g .mailbox s r) Requestor
     self = rw (requestor-role j) at (rw h at (inv .mailboxes s r))
     en : (entryIn (j .next) (j .block) .state ≡ j .next) × (entryIn (j .next) (j .block) .block ≡ j .block)
     en = held-entry (j .next) (j .block) (ok .gets)
@@ -112,10 +112,10 @@ no-dirty-copy g inv s j h m c w di at = go (cases-eq c r) (cases-eq w (j .way))
 
 -- the set is at Sent, the words are in the mail, and nothing is on its way at the memory
 abbrev pub afterRead : Ghost → ℕ → Job → Words → Ghost
-afterRead g s j ws = record { geometry = g .geometry; entry = g .entry; way = g .way; mailbox = update₂ (g .mailbox) s (j .requestor) (sentMailbox j (g .mailbox s (j .requestor)) ws Directory); progress = update (g .progress) s (Some (record { job = j; stage = Sent }));
+afterRead g s j ws = record { geometry = g .geometry; entry = g .entry; way = g .way; mailbox = update₂ (g .mailbox) s (j .requestor) (sentMailbox j (g .mailbox s (j .requestor)) ws Directory); progress = update (g .progress) s (Some (atStage Sent j));
   waiter = g .waiter; atMemory = update (g .atMemory) (j .block) (record { memory = g .atMemory (j .block) .memory; pending = Idle; latest = g .atMemory (j .block) .latest }) }
 
-pub memory-read-keeps : (g : Ghost) → Invariant g → (s : ℕ) (j : Job) → g .progress s ≡ Some (record { job = j; stage = Asked }) → j .source ≡ Memory → Invariant (afterRead g s j (g .atMemory (j .block) .memory))
+pub memory-read-keeps : (g : Ghost) → Invariant g → (s : ℕ) (j : Job) → g .progress s ≡ Some (atStage Asked j) → j .source ≡ Memory → Invariant (afterRead g s j (g .atMemory (j .block) .memory))
 memory-read-keeps g inv s j h m = record {
   mailboxes = update-both (λ t z f. (c : ℕ) → GoodMailbox z c (g .entry t c) (f c)) (g .progress) (g .mailbox) s (Some now) (update (g .mailbox s) r y)
       (update-each (λ c x. InRole now c (g .entry s c) x (role j c)) (g .mailbox s) r y (rw (requestor-role j) (sent-self (rw (requestor-role j) at (rw h at (inv .mailboxes s r))))) (λ c n. sent-other j (role j c) c (g .entry s c) (g .mailbox s c) m refl n (rw h at (inv .mailboxes s c)))) (λ t _. inv .mailboxes t);
@@ -126,22 +126,16 @@ memory-read-keeps g inv s j h m = record {
   places = places-after g inv s r y weak;
   agrees = update₂-each (λ t a z. (w : ℕ) → Agrees (z .known w) (g .way t a w)) (g .mailbox) s r y (inv .agrees s r) (λ t a _. inv .agrees t a);
   waits = update-each (λ t z. (c : ℕ) → GoodWait (g .geometry) t z c (g .waiter c)) (g .progress) s (Some now) (λ c. rw h at (inv .waits s c)) (λ t _. inv .waits t);
-  pendings = λ b. update-each (λ t z. setOf (g .geometry) b ≡ t → GoodPending z b (update (g .atMemory) (j .block) k b .pending)) (g .progress) s (Some now)
-      (λ e. update-each (λ i z. setOf (g .geometry) i ≡ s → isReading (z .pending) ≡ false) (g .atMemory) (j .block) k (λ _. refl) (λ i n q. rw (q, h) at (inv .pendings i) .1 n) b e)
-      (λ t n e. update-each (λ i z. setOf (g .geometry) i ≡ t → GoodPending (g .progress t) i (z .pending)) (g .atMemory) (j .block) k (λ q. absurd (n (sym q ∙ ok .here))) (λ i _ q. rw q at (inv .pendings i)) b e)
-      (setOf (g .geometry) b) refl;
-  pendingRanges = update-each (λ i z. PendingInRange (g .geometry) i (z .pending)) (g .atMemory) (j .block) k (inl refl) (λ i _. inv .pendingRanges i);
+  pendings = pendings-after g inv s (j .block) now k (ok .here) refl (λ i n q. rw (q, h) at (inv .pendings i) .1 n);
+  pendingRanges = pending-ranges-after g inv (j .block) k (inl refl);
   copies = λ t c w q. inv .copies t c w q ∙ sym (same (g .way t c w .block));
   mails = update₂-each (λ t c z. GoodMail (update (g .atMemory) (j .block) k) (z .mail)) (g .mailbox) s r y (λ c b w st ws sender q. let e : g .atMemory (j .block) .memory ≡ ws = cc in let i : j .block ≡ b = cc in sym e ∙ clean ∙ ap (λ n. g .atMemory n .latest) i ∙ sym (same b)) (λ t c _ d b w st ws sender q. inv .mails t c d b w st ws sender q ∙ sym (same b));
-  newest = λ b. update-each (λ t z. setOf (g .geometry) b ≡ t → Newest (g .way t) z b (update (g .atMemory) (j .block) k b)) (g .progress) s (Some now)
-      (λ e. update-each (λ i z. setOf (g .geometry) i ≡ s → Newest (g .way s) (Some now) i z) (g .atMemory) (j .block) k (λ q. inl clean) (λ i _ q. newest-progress (g .way s) (g .progress s) (Some now) i (g .atMemory i) (no-dirty-sent i) (rw q at (inv .newest i))) b e)
-      (λ t n e. update-each (λ i z. setOf (g .geometry) i ≡ t → Newest (g .way t) (g .progress t) i z) (g .atMemory) (j .block) k (λ q. absurd (n (sym q ∙ ok .here))) (λ i _ q. rw q at (inv .newest i)) b e)
-      (setOf (g .geometry) b) refl }
+  newest = newest-after g inv s (j .block) now k (ok .here) (λ i _. no-dirty-sent i) (inl clean) }
   where
     r : ℕ
     r = j .requestor
     now : Progress
-    now = record { job = j; stage = Sent }
+    now = atStage Sent j
     y : Mailbox
     y = sentMailbox j (g .mailbox s r) (g .atMemory (j .block) .memory) Directory
     k : BlockAtMemory
@@ -151,12 +145,12 @@ memory-read-keeps g inv s j h m = record {
     weak : (w : ℕ) → Weaker (y .known w) (g .mailbox s r .known w)
     weak w = weaker-same (g .mailbox s r .known w)
     same : (i : ℕ) → update (g .atMemory) (j .block) k i .latest ≡ g .atMemory i .latest
-    same = update-each (λ i z. z .latest ≡ g .atMemory i .latest) (g .atMemory) (j .block) k refl (λ i _. refl)
+    same = latest-same (g .atMemory) (j .block) k refl
     no-dirty-sent : (i : ℕ) → DirtyOnTheWay (g .progress s) i → ⊥
     no-dirty-sent i = rw h (not-sent j Asked i (λ e. grind arith))
     reads : g .atMemory (j .block) .pending ≡ Reading (j .requestor) (j .way) (j .next)
     reads = rw m at (rw (ok .here, h) at (inv .pendings (j .block)) .0 refl)
-    sent-self : InRole (record { job = j; stage = Asked }) r (g .entry s r) (g .mailbox s r) Requestor → InRole now r (g .entry s r) y Requestor
+    sent-self : InRole (atStage Asked j) r (g .entry s r) (g .mailbox s r) Requestor → InRole now r (g .entry s r) y Requestor
     sent-self p = (p .0, p .1, (p .2 .0, record { words = g .atMemory (j .block) .memory; sender = Directory; out = refl }))
     clean : g .atMemory (j .block) .memory ≡ g .atMemory (j .block) .latest
     clean = elim (rw (ok .here) at (inv .newest (j .block))) [ inl q ↦ rw reads at q | inr q ↦ elim q [ inl u ↦ absurd (no-dirty-copy g inv s j h m (u .cache) (u .way) (u .state) (u .block)) | inr u ↦ absurd (no-dirty-sent (j .block) u) ] ]

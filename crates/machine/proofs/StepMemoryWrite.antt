@@ -12,6 +12,7 @@ use Rattle.machine.specs.declared.transaction.Source.the-variants.{Memory, Own
 use Rattle.machine.proofs.Updates.{update, update-each}
 use Rattle.machine.proofs.Ghost.{Stage, Evicting, Clearing, Asked, Sent, Filled, Progress, Idle, Coming, Waiting, BlockAtMemory, Ghost, setBlock}
 use Rattle.machine.proofs.Invariant.{readFor, PendingAt, GoodPending, PendingInRange, newestAt, Newest, Invariant}
+use Rattle.machine.proofs.BlockFrames.{pending-ranges-after, latest-same}
 
 -- what is on its way for a block changes, and neither its newest words nor its latest
 pub block-keeps : (g : Ghost) → Invariant g → (b : ℕ) (k : BlockAtMemory) → k .latest ≡ g .atMemory b .latest → newestAt (k .pending) (k .memory) ≡ newestAt (g .atMemory b .pending) (g .atMemory b .memory)
@@ -20,14 +21,14 @@ block-keeps g inv b k cur new ok range = record {
   mailboxes = inv .mailboxes; jobs = inv .jobs; entriesApart = inv .entriesApart; entriesHome = inv .entriesHome; blanks = inv .blanks; waits = inv .waits; asks = inv .asks; ranges = inv .ranges;
   copiesApart = inv .copiesApart; copiesHome = inv .copiesHome; places = inv .places; agrees = inv .agrees;
   pendings = update-each (λ i z. GoodPending (g .progress (setOf (g .geometry) i)) i (z .pending)) (g .atMemory) b k ok (λ i _. inv .pendings i);
-  pendingRanges = update-each (λ i z. PendingInRange (g .geometry) i (z .pending)) (g .atMemory) b k range (λ i _. inv .pendingRanges i);
+  pendingRanges = pending-ranges-after g inv b k range;
   copies = λ s c w h. inv .copies s c w h ∙ sym (same (g .way s c w .block));
   mails = λ s c d i w st ws sender e. inv .mails s c d i w st ws sender e ∙ sym (same i);
   newest = update-each (λ i z. Newest (g .way (setOf (g .geometry) i)) (g .progress (setOf (g .geometry) i)) i z) (g .atMemory) b k
       (elim (inv .newest b) [ inl q ↦ inl (new ∙ q ∙ sym cur) | inr q ↦ inr q ]) (λ i _. inv .newest i) }
   where
     same : (i : ℕ) → update (g .atMemory) b k i .latest ≡ g .atMemory i .latest
-    same = update-each (λ i z. z .latest ≡ g .atMemory i .latest) (g .atMemory) b k cur (λ i _. refl)
+    same = latest-same (g .atMemory) b k cur
 
 waiting-good : (h : Option Progress) (b : ℕ) (ws : Words) → GoodPending h b (Coming ws) → GoodPending h b (Waiting ws)
 waiting-good None b ws ok = grind arith

@@ -6,7 +6,6 @@ use native.Mathlib.Omega.{arith}
 use Rattle.std.specs.declared.option.Option.the-variants.{Some}
 use Rattle.bedrock.specs.declared.words.Words.{Words}
 use Rattle.bedrock.specs.declared.party.Party.{Party}
-use Rattle.bedrock.specs.Geometries.{setOf}
 use Rattle.protocols.specs.declared.state.State.{State}
 use Rattle.messages.specs.declared.command.Command.the-variants.{Transfer, SetTagData}
 use Rattle.machine.specs.declared.holding.Entry.{Entry}
@@ -15,10 +14,11 @@ use Rattle.machine.specs.declared.transaction.Source.the-variants.{Memory, Own
 use Rattle.machine.specs.declared.transaction.Job.{Job}
 use Rattle.machine.specs.Coherence.{Agrees}
 use Rattle.machine.proofs.Updates.{update, update-each, update-both}
-use Rattle.machine.proofs.Ghost.{Clearing, Asked, Progress, Mail, Nothing, To, Mailbox, Idle, BlockAtMemory, Ghost}
+use Rattle.machine.proofs.Ghost.{Clearing, Asked, Progress, atStage, Mail, Nothing, To, Mailbox, Idle, BlockAtMemory, Ghost}
 use Rattle.machine.proofs.Mailboxes.{Role, Requestor, Giver, Bystander, role, wakeupMail, InRole, GoodMailbox}
-use Rattle.machine.proofs.Invariant.{AllApart, AtHome, GoodJob, GoodProgress, GoodWait, GoodPlace, readFor, PendingAt, GoodPending, PendingInRange, newestAt, GoodMail, DirtyOnTheWay, Newest, Invariant}
+use Rattle.machine.proofs.Invariant.{AllApart, AtHome, GoodJob, GoodProgress, GoodWait, GoodPlace, readFor, newestAt, GoodMail, DirtyOnTheWay, Newest, Invariant}
 use Rattle.machine.proofs.Frames.{newest-progress, not-sent}
+use Rattle.machine.proofs.BlockFrames.{pendings-after, newest-after, pending-ranges-after, latest-same}
 use Rattle.machine.proofs.MailFacts.{job-block}
 
 -- what goes out: a Wakeup, a Transfer, or nothing where the memory is asked
@@ -30,8 +30,8 @@ askedMail j c Bystander = Nothing
 abbrev pub askedMailbox : Job → ℕ → Mailbox → Mailbox
 askedMailbox j c x = record { known = x .known; mail = askedMail j c (role j c) }
 
-asked-at : (j : Job) (a : Role) (c : ℕ) (e : ℕ → Entry) (x : Mailbox) → x .mail ≡ Nothing → InRole (record { job = j; stage = Clearing }) c e x a
-    → InRole (record { job = j; stage = Asked }) c e (record { known = x .known; mail = askedMail j c a }) a
+asked-at : (j : Job) (a : Role) (c : ℕ) (e : ℕ → Entry) (x : Mailbox) → x .mail ≡ Nothing → InRole (atStage Clearing j) c e x a
+    → InRole (atStage Asked j) c e (record { known = x .known; mail = askedMail j c a }) a
 asked-at j Requestor c e x m ok = (ok .0, ok .1, elim (ok .2) [ inl q ↦ (q .0, refl) | inr q ↦ grind arith ])
 asked-at j (Giver p shown keeps writeback) c e x m ok = (ok .0, ok .1, (ok .2 .0, refl))
 asked-at j Bystander c e x m ok = elim ok [ inl q ↦ (q .0, refl) | inr q ↦ grind arith ]
@@ -54,11 +54,11 @@ newest-read j (Owner o p shown keeps writeback) ws = refl
 
 -- the set is at Asked
 abbrev pub afterBegin : Ghost → ℕ → Job → Ghost
-afterBegin g s j = record { geometry = g .geometry; entry = g .entry; way = g .way; mailbox = update (g .mailbox) s (λ c. askedMailbox j c (g .mailbox s c)); progress = update (g .progress) s (Some (record { job = j; stage = Asked }));
+afterBegin g s j = record { geometry = g .geometry; entry = g .entry; way = g .way; mailbox = update (g .mailbox) s (λ c. askedMailbox j c (g .mailbox s c)); progress = update (g .progress) s (Some (atStage Asked j));
   waiter = g .waiter; atMemory = update (g .atMemory) (j .block) (record { memory = g .atMemory (j .block) .memory; pending = readFor j (j .source); latest = g .atMemory (j .block) .latest }) }
 
 -- once all answers of round one are in
-pub round-two-keeps : (g : Ghost) → Invariant g → (s : ℕ) (j : Job) → g .progress s ≡ Some (record { job = j; stage = Clearing }) → ((c : ℕ) → g .mailbox s c .mail ≡ Nothing) → Invariant (afterBegin g s j)
+pub round-two-keeps : (g : Ghost) → Invariant g → (s : ℕ) (j : Job) → g .progress s ≡ Some (atStage Clearing j) → ((c : ℕ) → g .mailbox s c .mail ≡ Nothing) → Invariant (afterBegin g s j)
 round-two-keeps g inv s j h quiet = record {
   mailboxes = update-both (λ t z f. (c : ℕ) → GoodMailbox z c (g .entry t c) (f c)) (g .progress) (g .mailbox) s (Some now) f
       (λ c. asked-at j (role j c) c (g .entry s c) (g .mailbox s c) (quiet c) (rw h at (inv .mailboxes s c))) (λ t _. inv .mailboxes t);
@@ -69,22 +69,15 @@ round-two-keeps g inv s j h quiet = record {
   places = update-each (λ t z. (c : ℕ) → GoodPlace (z c) (g .waiter c)) (g .mailbox) s f (inv .places s) (λ t _. inv .places t);
   agrees = update-each (λ t z. (c w : ℕ) → Agrees (z c .known w) (g .way t c w)) (g .mailbox) s f (inv .agrees s) (λ t _. inv .agrees t);
   waits = update-each (λ t z. (c : ℕ) → GoodWait (g .geometry) t z c (g .waiter c)) (g .progress) s (Some now) (λ c. rw h at (inv .waits s c)) (λ t _. inv .waits t);
-  pendings = λ b. update-each (λ t z. setOf (g .geometry) b ≡ t → GoodPending z b (update (g .atMemory) (j .block) k b .pending)) (g .progress) s (Some now)
-      (λ e. update-each (λ i z. setOf (g .geometry) i ≡ s → PendingAt Asked j i (z .pending)) (g .atMemory) (j .block) k (λ _. ((λ _. refl), λ n. absurd (n refl)))
-        (λ i n q. ((λ p. absurd (n p)), λ _. rw (q, h) at (inv .pendings i) .0)) b e)
-      (λ t n e. update-each (λ i z. setOf (g .geometry) i ≡ t → GoodPending (g .progress t) i (z .pending)) (g .atMemory) (j .block) k (λ q. absurd (n (sym q ∙ ok .here))) (λ i _ q. rw q at (inv .pendings i)) b e)
-      (setOf (g .geometry) b) refl;
-  pendingRanges = update-each (λ i z. PendingInRange (g .geometry) i (z .pending)) (g .atMemory) (j .block) k (inr (job-block g inv s j Clearing h)) (λ i _. inv .pendingRanges i);
+  pendings = pendings-after g inv s (j .block) now k (ok .here) ((λ _. refl), λ n. absurd (n refl)) (λ i n q. ((λ p. absurd (n p)), λ _. rw (q, h) at (inv .pendings i) .0));
+  pendingRanges = pending-ranges-after g inv (j .block) k (inr (job-block g inv s j Clearing h));
   copies = λ t c w q. inv .copies t c w q ∙ sym (same (g .way t c w .block));
   mails = update-each (λ t z. (c : ℕ) → GoodMail (update (g .atMemory) (j .block) k) (z c .mail)) (g .mailbox) s f (λ c d b w st ws sender q. absurd (no-data-asked j c (role j c) d b w st ws sender q))
       (λ t _ c d b w st ws sender q. inv .mails t c d b w st ws sender q ∙ sym (same b));
-  newest = λ b. update-each (λ t z. setOf (g .geometry) b ≡ t → Newest (g .way t) z b (update (g .atMemory) (j .block) k b)) (g .progress) s (Some now)
-      (λ e. update-each (λ i z. setOf (g .geometry) i ≡ s → Newest (g .way s) (Some now) i z) (g .atMemory) (j .block) k (λ q. kept-newest) (λ i _ q. newest-progress (g .way s) (g .progress s) (Some now) i (g .atMemory i) (no-dirty-sent i) (rw q at (inv .newest i))) b e)
-      (λ t n e. update-each (λ i z. setOf (g .geometry) i ≡ t → Newest (g .way t) (g .progress t) i z) (g .atMemory) (j .block) k (λ q. absurd (n (sym q ∙ ok .here))) (λ i _ q. rw q at (inv .newest i)) b e)
-      (setOf (g .geometry) b) refl }
+  newest = newest-after g inv s (j .block) now k (ok .here) (λ i _. no-dirty-sent i) kept-newest }
   where
     now : Progress
-    now = record { job = j; stage = Asked }
+    now = atStage Asked j
     f : ℕ → Mailbox
     f = λ c. askedMailbox j c (g .mailbox s c)
     k : BlockAtMemory
@@ -92,7 +85,7 @@ round-two-keeps g inv s j h quiet = record {
     ok : GoodJob (g .geometry) s (g .entry s) j
     ok = rw h at (inv .jobs s)
     same : (i : ℕ) → update (g .atMemory) (j .block) k i .latest ≡ g .atMemory i .latest
-    same = update-each (λ i z. z .latest ≡ g .atMemory i .latest) (g .atMemory) (j .block) k refl (λ i _. refl)
+    same = latest-same (g .atMemory) (j .block) k refl
     no-dirty-sent : (i : ℕ) → DirtyOnTheWay (g .progress s) i → ⊥
     no-dirty-sent i = rw h (not-sent j Clearing i (λ e. grind arith))
     idle : g .atMemory (j .block) .pending ≡ Idle

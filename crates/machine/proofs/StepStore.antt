@@ -21,9 +21,10 @@ use Rattle.machine.specs.Coherence.{Agrees}
 use Rattle.machine.proofs.Updates.{update, update₃, update-each, update₂-each, update-here, update-there, update₃-here}
 use Rattle.machine.proofs.Ghost.{To, BlockAtMemory, Ghost, setWay, setBlock}
 use Rattle.machine.proofs.Mailboxes.{role, readOnly, BeforeFill}
-use Rattle.machine.proofs.Invariant.{GoodJob, GoodPending, PendingInRange, Newest, Invariant}
+use Rattle.machine.proofs.Invariant.{GoodJob, GoodPending, Newest, Invariant}
 use Rattle.machine.proofs.StateFacts.{shows-writable, shows-store, writable-held, writable-alone, held-entry}
 use Rattle.machine.proofs.Frames.{dirty-after, copies-after}
+use Rattle.machine.proofs.BlockFrames.{pending-ranges-after}
 use Rattle.machine.proofs.MailFacts.{DataFacts, data-facts, sent-at, requestor-is}
 use Rattle.machine.proofs.Promises.{sole-place}
 
@@ -84,7 +85,7 @@ store-keeps g inv s c w b ws e h = record {
   mailboxes = inv .mailboxes; jobs = inv .jobs; entriesApart = inv .entriesApart; entriesHome = inv .entriesHome; blanks = inv .blanks; waits = inv .waits; asks = inv .asks; ranges = inv .ranges;
   copiesApart = inv .copiesApart; copiesHome = inv .copiesHome; places = inv .places;
   pendings = update-each (λ i z. GoodPending (g .progress (setOf (g .geometry) i)) i (z .pending)) (g .atMemory) b k (inv .pendings b) (λ i _. inv .pendings i);
-  pendingRanges = update-each (λ i z. PendingInRange (g .geometry) i (z .pending)) (g .atMemory) b k (inv .pendingRanges b) (λ i _. inv .pendingRanges i);
+  pendingRanges = pending-ranges-after g inv b k (inv .pendingRanges b);
   agrees = update₂-each (λ t d f. (x : ℕ) → Agrees (g .mailbox t d .known x) (f x)) (g .way) s c (update (g .way s c) w v)
       (update-each (λ x z. Agrees (g .mailbox s c .known x) z) (g .way s c) w v
         (record { state = shows-store (g .mailbox s c .known w .state) (g .way s c w .state) (inv .agrees s c w .state) h; block = inv .agrees s c w .block ∙ e }) (λ x _. inv .agrees s c x))

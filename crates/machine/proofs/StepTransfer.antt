@@ -22,11 +22,12 @@ use Rattle.machine.specs.declared.transaction.Job.{Job}
 use Rattle.machine.specs.Holdings.{wayIn, entryIn}
 use Rattle.machine.specs.Coherence.{Shows, Agrees}
 use Rattle.machine.proofs.Updates.{update, update₂, update₃, update-each, update-both, update-here, update-there, update₃-here}
-use Rattle.machine.proofs.Ghost.{Asked, Sent, Progress, Mail, To, Mailbox, Pending, Idle, BlockAtMemory, Ghost}
+use Rattle.machine.proofs.Ghost.{Asked, Sent, Progress, atStage, Mail, To, Mailbox, Pending, Idle, BlockAtMemory, Ghost}
 use Rattle.machine.proofs.Mailboxes.{Role, Requestor, Giver, Bystander, role, NoCommand, readOnly, InRole, GoodMailbox}
-use Rattle.machine.proofs.Invariant.{goTogether, AllApart, AtHome, OwnerLaw, GoodSource, GoodJob, GoodProgress, GoodWait, GoodPlace, isReading, GoodPending, PendingInRange, GoodCopy, GoodMail, DirtyCopy, DirtyOnTheWay, Newest, Invariant}
+use Rattle.machine.proofs.Invariant.{goTogether, AllApart, AtHome, OwnerLaw, GoodSource, GoodJob, GoodProgress, GoodWait, GoodPlace, isReading, GoodCopy, GoodMail, DirtyCopy, DirtyOnTheWay, Newest, Invariant}
 use Rattle.machine.proofs.StateFacts.{shows-owning, owning-held, beside-owner, owner-beside, held-entry, agrees-in, way-is, way-none}
 use Rattle.machine.proofs.Frames.{Weaker, weaker-same, weaker-none, shrinks, copies-after, newest-progress, not-sent, newest-way}
+use Rattle.machine.proofs.BlockFrames.{pendings-after, newest-way-after, pending-ranges-after, latest-same}
 use Rattle.machine.proofs.MailFacts.{requestor-is, requestor-role, job-block}
 use Rattle.machine.proofs.StepMemoryRead.{sentMailbox}
 use Rattle.machine.proofs.StepWriteback.{comingIf, coming-no-read}
@@ -57,15 +58,15 @@ pub giver-is : (j : Job) (o p : ℕ) (shown keeps : State) (writeback : Bool) �
 giver-is j o p shown keeps writeback m n = rw (ne-eqb o (j .requestor) n, m, eq-eqb o o refl) refl
 
 sent-rest : (j : Job) (a : Role) (o p c : ℕ) (shown keeps : State) (writeback : Bool) (e : ℕ → Entry) (x : Mailbox) → j .source ≡ Owner o p shown keeps writeback → role j c ≡ a → (c ≡ j .requestor → ⊥) → (c ≡ o → ⊥)
-    → InRole (record { job = j; stage = Asked }) c e x a → InRole (record { job = j; stage = Sent }) c e x a
+    → InRole (atStage Asked j) c e x a → InRole (atStage Sent j) c e x a
 sent-rest j Requestor o p c shown keeps writeback e x m r n i ok = absurd (n (requestor-is j c r))
 sent-rest j (Giver q w k b) o p c shown keeps writeback e x m r n i ok = grind (arith, tells)
 sent-rest j Bystander o p c shown keeps writeback e x m r n i ok = ok
 
 module _ (g : Ghost) (inv : Invariant g) (s : ℕ) (j : Job) (o p : ℕ) (shown keeps : State) (writeback : Bool) (m : Mail)
-    (h : g .progress s ≡ Some (record { job = j; stage = Asked })) (src : j .source ≡ Owner o p shown keeps writeback) (answer : NoCommand m) where
+    (h : g .progress s ≡ Some (atStage Asked j)) (src : j .source ≡ Owner o p shown keeps writeback) (answer : NoCommand m) where
   abbrev now : Progress
-  now = record { job = j; stage = Sent }
+  now = atStage Sent j
   abbrev v : Way
   v = wayIn keeps (j .block) (g .way s o p .words)
   abbrev yo : Mailbox
@@ -92,31 +93,23 @@ module _ (g : Ghost) (inv : Invariant g) (s : ℕ) (j : Job) (o p : ℕ) (shown 
         (λ c q e w hd bl. let a = weak c w in let u = inv .places s c q e w (a .had hd) (a .same hd ∙ bl) in (u .0, u .1, a .readsOnly hd (u .2))) (λ t _. inv .places t);
     agrees = update-both (λ t z f. (c w : ℕ) → Agrees (z c .known w) (f c w)) (g .mailbox) (g .way) s after (update₂ (g .way s) o p v) (λ c w. rw (old-is c w) (agrees-here c w)) (λ t _. inv .agrees t);
     waits = update-each (λ t z. (c : ℕ) → GoodWait (g .geometry) t z c (g .waiter c)) (g .progress) s (Some now) (λ c. rw h at (inv .waits s c)) (λ t _. inv .waits t);
-    pendings = λ b. update-each (λ t z. setOf (g .geometry) b ≡ t → GoodPending z b (update (g .atMemory) (j .block) k b .pending)) (g .progress) s (Some now)
-        (λ e. update-each (λ i z. setOf (g .geometry) i ≡ s → isReading (z .pending) ≡ false) (g .atMemory) (j .block) k (λ _. back-no-read writeback (dirty (g .way s o p .state))) (λ i n q. rw (q, h) at (inv .pendings i) .1 n) b e)
-        (λ t n e. update-each (λ i z. setOf (g .geometry) i ≡ t → GoodPending (g .progress t) i (z .pending)) (g .atMemory) (j .block) k (λ q. absurd (n (sym q ∙ ok .here))) (λ i _ q. rw q at (inv .pendings i)) b e)
-        (setOf (g .geometry) b) refl;
-    pendingRanges = update-each (λ i z. PendingInRange (g .geometry) i (z .pending)) (g .atMemory) (j .block) k (inr (job-block g inv s j Asked h)) (λ i _. inv .pendingRanges i);
+    pendings = pendings-after g inv s (j .block) now k (ok .here) (back-no-read writeback (dirty (g .way s o p .state))) (λ i n q. rw (q, h) at (inv .pendings i) .1 n);
+    pendingRanges = pending-ranges-after g inv (j .block) k (inr (job-block g inv s j Asked h));
     copies = copies-after g (update (g .atMemory) (j .block) k) s o p v (copy-here (held keeps) refl) (λ t c w _ q. inv .copies t c w q ∙ sym (same (g .way t c w .block)));
     mails = update-each (λ t z. (c : ℕ) → GoodMail (update (g .atMemory) (j .block) k) (z c .mail)) (g .mailbox) s after
         (update-each (λ c z. GoodMail (update (g .atMemory) (j .block) k) (z .mail)) (update (g .mailbox s) o yo) (j .requestor) yr
           (λ d b w st ws sender q. let e : g .way s o p .words ≡ ws = cc in let i : j .block ≡ b = cc in sym e ∙ latest ∙ ap (λ z. g .atMemory z .latest) i ∙ sym (same b))
           (λ c _. update-each (λ c z. GoodMail (update (g .atMemory) (j .block) k) (z .mail)) (g .mailbox s) o yo (λ d b w st ws sender q. absurd (no-data-back d b w st ws sender q)) (λ c _ d b w st ws sender q. inv .mails s c d b w st ws sender q ∙ sym (same b)) c))
         (λ t _ c d b w st ws sender q. inv .mails t c d b w st ws sender q ∙ sym (same b));
-    newest = λ b. update-each (λ t z. setOf (g .geometry) b ≡ t → Newest (update₃ (g .way) s o p v t) z b (update (g .atMemory) (j .block) k b)) (g .progress) s (Some now)
-        (λ e. update-each (λ i z. setOf (g .geometry) i ≡ s → Newest (update₃ (g .way) s o p v s) (Some now) i z) (g .atMemory) (j .block) k (λ _. newest-here writeback refl (dirty (g .way s o p .state)) refl)
-          (λ i n q. newest-way (g .way) s o p v s (Some now) i (g .atMemory i) (moved i q) (λ _ _ z. absurd (n (sym z ∙ at)))) b e)
-        (λ t n e. update-each (λ i z. setOf (g .geometry) i ≡ t → Newest (update₃ (g .way) s o p v t) (g .progress t) i z) (g .atMemory) (j .block) k (λ q. absurd (n (sym q ∙ ok .here)))
-          (λ i _ q. newest-way (g .way) s o p v t (g .progress t) i (g .atMemory i) (rw q at (inv .newest i)) (λ z. absurd (n z))) b e)
-        (setOf (g .geometry) b) refl }
+    newest = newest-way-after g inv s (j .block) now k (ok .here) (λ i _. no-dirty-sent i) o p v (λ _. at) (newest-here writeback refl (dirty (g .way s o p .state)) refl) }
     where
       ok : GoodJob (g .geometry) s (g .entry s) j
       ok = rw h at (inv .jobs s)
       law : OwnerLaw j o p shown keeps writeback
       law = subst (GoodSource j (g .entry s)) src (ok .source)
-      me : InRole (record { job = j; stage = Asked }) (j .requestor) (g .entry s (j .requestor)) (g .mailbox s (j .requestor)) Requestor
+      me : InRole (atStage Asked j) (j .requestor) (g .entry s (j .requestor)) (g .mailbox s (j .requestor)) Requestor
       me = rw (requestor-role j) at (rw h at (inv .mailboxes s (j .requestor)))
-      it : InRole (record { job = j; stage = Asked }) o (g .entry s o) (g .mailbox s o) (Giver p shown keeps writeback)
+      it : InRole (atStage Asked j) o (g .entry s o) (g .mailbox s o) (Giver p shown keeps writeback)
       it = rw (giver-is j o p shown keeps writeback src (law .other)) at (rw h at (inv .mailboxes s o))
       gave : InRole now o (g .entry s o) yo (Giver p shown keeps writeback)
       gave = (it .0, (λ w n. it .1 w n ∙ sym (update-there (g .mailbox s o .known) p (entryIn keeps (j .block)) w n)), (it .0 ∙ sym (update-here (g .mailbox s o .known) p (entryIn keeps (j .block))), answer))
@@ -140,7 +133,7 @@ module _ (g : Ghost) (inv : Invariant g) (s : ℕ) (j : Job) (o p : ℕ) (shown 
       back-no-read true t = coming-no-read t (g .way s o p .words)
       back-no-read false t = refl
       same : (i : ℕ) → update (g .atMemory) (j .block) k i .latest ≡ g .atMemory i .latest
-      same = update-each (λ i z. z .latest ≡ g .atMemory i .latest) (g .atMemory) (j .block) k refl (λ i _. refl)
+      same = latest-same (g .atMemory) (j .block) k refl
       had : (entryIn shown (j .block) .state ≡ shown) × (entryIn shown (j .block) .block ≡ j .block)
       had = held-entry shown (j .block) (owning-held shown (law .owned))
       at : g .way s o p .block ≡ j .block

@@ -18,18 +18,19 @@ use Rattle.machine.specs.Holdings.{noWay, noEntry, entryIn}
 use Rattle.machine.specs.Machines.{home}
 use Rattle.machine.specs.Coherence.{Agrees}
 use Rattle.machine.proofs.Updates.{update, update₂, update₃, update-each, update₂-each, update-both, update-here, update-there}
-use Rattle.machine.proofs.Ghost.{Stage, Evicting, Clearing, Asked, Sent, Filled, Progress, To, Mailbox, Pending, Idle, Coming, BlockAtMemory, Ghost}
+use Rattle.machine.proofs.Ghost.{Stage, Evicting, Clearing, Asked, Sent, Filled, Progress, atStage, To, Mailbox, Pending, Idle, Coming, BlockAtMemory, Ghost}
 use Rattle.machine.proofs.Mailboxes.{Role, Requestor, Giver, Bystander, role, InRole, GoodMailbox}
-use Rattle.machine.proofs.Invariant.{GoodProgress, GoodWait, isReading, PendingAt, GoodPending, PendingInRange, GoodMail, DirtyOnTheWay, Newest, Invariant}
+use Rattle.machine.proofs.Invariant.{GoodProgress, GoodWait, isReading, GoodMail, DirtyOnTheWay, Newest, Invariant}
 use Rattle.machine.proofs.StateFacts.{dirty-held, may-be-dirty-held}
 use Rattle.machine.proofs.Frames.{Weaker, weaker-same, weaker-none, copies-apart-after, copies-home-after, places-after, agrees-after, copies-after, no-answer, newest-progress, not-sent, newest-way}
+use Rattle.machine.proofs.BlockFrames.{pendings-after, newest-way-after, pending-ranges-after, latest-same}
 use Rattle.machine.proofs.MailFacts.{requestor-is, requestor-role}
 use Rattle.machine.proofs.StepInvalidate.{droppedMailbox}
 
 -- what a Set State with Writeback in the mail tells of the set
 pub record WritebackFacts (h : Option Progress) (c : ℕ) (e : ℕ → Entry) (x : Mailbox) (b p : ℕ) : Type 0 where
   pub job : Job
-  pub progress : h ≡ Some (record { job = job; stage = Evicting })
+  pub progress : h ≡ Some (atStage Evicting job)
   pub isRequestor : role job c ≡ Requestor
   pub way : p ≡ job .way
   pub other : b ≡ job .block → ⊥
@@ -40,7 +41,7 @@ pub record WritebackFacts (h : Option Progress) (c : ℕ) (e : ℕ → Entry) (x
   pub rest : (w : ℕ) → (w ≡ job .way → ⊥) → e w ≡ x .known w
 
 writeback-at : (j : Job) (s : Stage) (a : Role) (c : ℕ) (e : ℕ → Entry) (x : Mailbox) (d b p : ℕ) → x .mail ≡ To (SetStateWriteback d b p)
-    → role j c ≡ a → InRole (record { job = j; stage = s }) c e x a → WritebackFacts (Some (record { job = j; stage = s })) c e x b p
+    → role j c ≡ a → InRole (atStage s j) c e x a → WritebackFacts (Some (atStage s j)) c e x b p
 writeback-at j Evicting Requestor c e x d b p m i ok = let l = ok .2 in let q : l .block ≡ b = cc (m, l .out) in let pw : p ≡ j .way = cc (m, l .out) in
     record { job = j; progress = refl; isRequestor = i; way = pw; other = rw q at (l .other); block = rw pw (l .shown ∙ q); heldThere = rw pw (may-be-dirty-held (x .known (j .way) .state) (l .state)); noUpgrade = l .noUpgrade; entry = ok .0; rest = ok .1 }
 writeback-at j Clearing Requestor c e x d b p m i ok = grind arith
@@ -68,7 +69,7 @@ comingIf true ws = Coming ws
 comingIf false ws = Idle
 
 -- bystanders and owners do not tell the two parts of round one apart
-clearing-other : (j : Job) (a : Role) (c : ℕ) (e : ℕ → Entry) (x : Mailbox) → role j c ≡ a → (c ≡ j .requestor → ⊥) → InRole (record { job = j; stage = Evicting }) c e x a → InRole (record { job = j; stage = Clearing }) c e x a
+clearing-other : (j : Job) (a : Role) (c : ℕ) (e : ℕ → Entry) (x : Mailbox) → role j c ≡ a → (c ≡ j .requestor → ⊥) → InRole (atStage Evicting j) c e x a → InRole (atStage Clearing j) c e x a
 clearing-other j Requestor c e x r n ok = absurd (n (requestor-is j c r))
 clearing-other j (Giver p shown keeps writeback) c e x r n ok = ok
 clearing-other j Bystander c e x r n ok = ok
@@ -80,11 +81,11 @@ coming-no-read false ws = refl
 -- the set is at Clearing
 abbrev pub afterWriteback : Ghost → ℕ → Job → ℕ → ℕ → Response → Ghost
 afterWriteback g s j b p r = record { geometry = g .geometry; entry = g .entry; way = update₃ (g .way) s (j .requestor) p noWay; mailbox = update₂ (g .mailbox) s (j .requestor) (droppedMailbox (g .mailbox s (j .requestor)) p r);
-  progress = update (g .progress) s (Some (record { job = j; stage = Clearing })); waiter = g .waiter;
+  progress = update (g .progress) s (Some (atStage Clearing j)); waiter = g .waiter;
   atMemory = update (g .atMemory) b (record { memory = g .atMemory b .memory; pending = comingIf (dirty (g .way s (j .requestor) p .state)) (g .way s (j .requestor) p .words); latest = g .atMemory b .latest }) }
 
 -- with what the facts above give
-pub writeback-keeps : (g : Ghost) → Invariant g → (s b : ℕ) (r : Response) (j : Job) → g .progress s ≡ Some (record { job = j; stage = Evicting })
+pub writeback-keeps : (g : Ghost) → Invariant g → (s b : ℕ) (r : Response) (j : Job) → g .progress s ≡ Some (atStage Evicting j)
     → (b ≡ j .block → ⊥) → g .mailbox s (j .requestor) .known (j .way) .block ≡ b → held (g .mailbox s (j .requestor) .known (j .way) .state) ≡ true → j .upgrade ≡ false → Invariant (afterWriteback g s j b (j .way) r)
 writeback-keeps g inv s b r j h other bl hd up = record {
   mailboxes = update-both (λ t z f. (c : ℕ) → GoodMailbox z c (g .entry t c) (f c)) (g .progress) (g .mailbox) s (Some now) (update (g .mailbox s) c y)
@@ -97,19 +98,11 @@ writeback-keeps g inv s b r j h other bl hd up = record {
   places = places-after g inv s c y weak;
   agrees = agrees-after g inv s c p noWay y (update-both (λ w o v. Agrees o v) (x .known) (g .way s c) p noEntry noWay (record { state = refl; block = refl }) (λ w _. inv .agrees s c w));
   waits = update-each (λ t z. (d : ℕ) → GoodWait (g .geometry) t z d (g .waiter d)) (g .progress) s (Some now) (λ d. rw h at (inv .waits s d)) (λ t _. inv .waits t);
-  pendings = λ i. update-each (λ t z. setOf (g .geometry) i ≡ t → GoodPending z i (update (g .atMemory) b k i .pending)) (g .progress) s (Some now)
-      (λ e. update-each (λ n z. setOf (g .geometry) n ≡ s → PendingAt Clearing j n (z .pending)) (g .atMemory) b k (λ _. (coming-no-read (dirty (g .way s c p .state)) (g .way s c p .words), λ q. absurd (other q)))
-        (λ n _ q. let z = rw (q, h) at (inv .pendings n) in (rw z refl, λ _. z)) i e)
-      (λ t n e. update-each (λ a z. setOf (g .geometry) a ≡ t → GoodPending (g .progress t) a (z .pending)) (g .atMemory) b k (λ q. absurd (n (sym q ∙ home))) (λ a _ q. rw q at (inv .pendings a)) i e)
-      (setOf (g .geometry) i) refl;
-  pendingRanges = update-each (λ i z. PendingInRange (g .geometry) i (z .pending)) (g .atMemory) b k (inr in-range) (λ i _. inv .pendingRanges i);
+  pendings = pendings-after g inv s b now k home (coming-no-read (dirty (g .way s c p .state)) (g .way s c p .words), λ q. absurd (other q)) (λ i _ q. let z = rw (q, h) at (inv .pendings i) in (rw z refl, λ _. z));
+  pendingRanges = pending-ranges-after g inv b k (inr in-range);
   copies = copies-after g (update (g .atMemory) b k) s c p noWay (λ q. absurd (false≢true q)) (λ t d w _ q. inv .copies t d w q ∙ sym (same (g .way t d w .block)));
   mails = update₂-each (λ t d z. GoodMail (update (g .atMemory) b k) (z .mail)) (g .mailbox) s c y (λ _ _ _ _ _ _ q. absurd (no-answer q)) (λ t d _ a i w st ws sender q. inv .mails t d a i w st ws sender q ∙ sym (same i));
-  newest = λ i. update-each (λ t z. setOf (g .geometry) i ≡ t → Newest (update₃ (g .way) s c p noWay t) z i (update (g .atMemory) b k i)) (g .progress) s (Some now)
-      (λ e. update-each (λ a z. setOf (g .geometry) a ≡ s → Newest (update₃ (g .way) s c p noWay s) (Some now) a z) (g .atMemory) b k (λ q. coming-newest (dirty (g .way s c p .state)) refl) (λ a n q. newest-way (g .way) s c p noWay s (Some now) a (g .atMemory a) (moved a q) (λ _ _ z. absurd (n (sym z ∙ at)))) i e)
-      (λ t n e. update-each (λ a z. setOf (g .geometry) a ≡ t → Newest (update₃ (g .way) s c p noWay t) (g .progress t) a z) (g .atMemory) b k (λ q. absurd (n (sym q ∙ home)))
-        (λ a _ q. newest-way (g .way) s c p noWay t (g .progress t) a (g .atMemory a) (rw q at (inv .newest a)) (λ z. absurd (n z))) i e)
-      (setOf (g .geometry) i) refl }
+  newest = newest-way-after g inv s b now k home (λ i _. no-dirty-sent i) c p noWay (λ _. at) (coming-newest (dirty (g .way s c p .state)) refl) }
   where
     c : ℕ
     c = j .requestor
@@ -120,7 +113,7 @@ writeback-keeps g inv s b r j h other bl hd up = record {
     y : Mailbox
     y = droppedMailbox x p r
     now : Progress
-    now = record { job = j; stage = Clearing }
+    now = atStage Clearing j
     k : BlockAtMemory
     k = record { memory = g .atMemory b .memory; pending = comingIf (dirty (g .way s c p .state)) (g .way s c p .words); latest = g .atMemory b .latest }
     home : setOf (g .geometry) b ≡ s
@@ -130,8 +123,8 @@ writeback-keeps g inv s b r j h other bl hd up = record {
     weak : (w : ℕ) → Weaker (y .known w) (x .known w)
     weak = update-each (λ w o. Weaker o (x .known w)) (x .known) p noEntry (weaker-none (x .known p)) (λ w _. weaker-same (x .known w))
     same : (i : ℕ) → update (g .atMemory) b k i .latest ≡ g .atMemory i .latest
-    same = update-each (λ i z. z .latest ≡ g .atMemory i .latest) (g .atMemory) b k refl (λ i _. refl)
-    self : InRole (record { job = j; stage = Evicting }) c (g .entry s c) x Requestor → InRole now c (g .entry s c) y Requestor
+    same = latest-same (g .atMemory) b k refl
+    self : InRole (atStage Evicting j) c (g .entry s c) x Requestor → InRole now c (g .entry s c) y Requestor
     self q = (q .0, (λ w n. q .1 w n ∙ sym (update-there (x .known) p noEntry w n)), inl (rw up (update-here (x .known) p noEntry), inr (r, refl)))
     no-dirty-sent : (i : ℕ) → DirtyOnTheWay (g .progress s) i → ⊥
     no-dirty-sent i = rw h (not-sent j Evicting i (λ e. grind arith))
