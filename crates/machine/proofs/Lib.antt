@@ -2,6 +2,7 @@ mod Worked
 mod Updates
 mod Keys
 mod Weights
+mod Ranges
 mod RowLaws
 mod Ghost
 mod Mailboxes

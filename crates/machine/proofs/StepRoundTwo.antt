@@ -19,7 +19,7 @@ use Rattle.machine.proofs.Mailboxes.{Role, Requestor, Giver, Bystander, role, 
 use Rattle.machine.proofs.Invariant.{AllApart, AtHome, GoodJob, GoodProgress, GoodWait, GoodPlace, readFor, newestAt, GoodMail, DirtyOnTheWay, Newest, Invariant}
 use Rattle.machine.proofs.Frames.{newest-progress, not-sent}
 use Rattle.machine.proofs.BlockFrames.{pendings-after, newest-after, pending-ranges-after, latest-same}
-use Rattle.machine.proofs.MailFacts.{job-block}
+use Rattle.machine.proofs.MailFacts.{job-range}
 
 -- what goes out: a Wakeup, a Transfer, or nothing where the memory is asked
 abbrev pub askedMail : Job → ℕ → Role → Mail
@@ -70,7 +70,7 @@ round-two-keeps g inv s j h quiet = record {
   agrees = update-each (λ t z. (c w : ℕ) → Agrees (z c .known w) (g .way t c w)) (g .mailbox) s f (inv .agrees s) (λ t _. inv .agrees t);
   waits = update-each (λ t z. (c : ℕ) → GoodWait (g .geometry) t z c (g .waiter c)) (g .progress) s (Some now) (λ c. rw h at (inv .waits s c)) (λ t _. inv .waits t);
   pendings = pendings-after g inv s (j .block) now k (ok .here) ((λ _. refl), λ n. absurd (n refl)) (λ i n q. ((λ p. absurd (n p)), λ _. rw (q, h) at (inv .pendings i) .0));
-  pendingRanges = pending-ranges-after g inv (j .block) k (inr (job-block g inv s j Clearing h));
+  pendingRanges = pending-ranges-after g inv (j .block) k (inr (job-range g inv s j Clearing h .2));
   copies = λ t c w q. inv .copies t c w q ∙ sym (same (g .way t c w .block));
   mails = update-each (λ t z. (c : ℕ) → GoodMail (update (g .atMemory) (j .block) k) (z c .mail)) (g .mailbox) s f (λ c d b w st ws sender q. absurd (no-data-asked j c (role j c) d b w st ws sender q))
       (λ t _ c d b w st ws sender q. inv .mails t c d b w st ws sender q ∙ sym (same b));

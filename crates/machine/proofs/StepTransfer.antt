@@ -28,7 +28,7 @@ use Rattle.machine.proofs.Invariant.{goTogether, AllApart, AtHome, OwnerLaw, G
 use Rattle.machine.proofs.StateFacts.{shows-owning, owning-held, beside-owner, owner-beside, held-entry, agrees-in, way-is, way-none}
 use Rattle.machine.proofs.Frames.{Weaker, weaker-same, weaker-none, shrinks, copies-after, newest-progress, not-sent, newest-way}
 use Rattle.machine.proofs.BlockFrames.{pendings-after, newest-way-after, pending-ranges-after, latest-same}
-use Rattle.machine.proofs.MailFacts.{requestor-is, requestor-role, job-block}
+use Rattle.machine.proofs.MailFacts.{requestor-is, requestor-role, job-range}
 use Rattle.machine.proofs.StepMemoryRead.{sentMailbox}
 use Rattle.machine.proofs.StepWriteback.{comingIf, coming-no-read}
 
@@ -94,7 +94,7 @@ module _ (g : Ghost) (inv : Invariant g) (s : ℕ) (j : Job) (o p : ℕ) (shown 
     agrees = update-both (λ t z f. (c w : ℕ) → Agrees (z c .known w) (f c w)) (g .mailbox) (g .way) s after (update₂ (g .way s) o p v) (λ c w. rw (old-is c w) (agrees-here c w)) (λ t _. inv .agrees t);
     waits = update-each (λ t z. (c : ℕ) → GoodWait (g .geometry) t z c (g .waiter c)) (g .progress) s (Some now) (λ c. rw h at (inv .waits s c)) (λ t _. inv .waits t);
     pendings = pendings-after g inv s (j .block) now k (ok .here) (back-no-read writeback (dirty (g .way s o p .state))) (λ i n q. rw (q, h) at (inv .pendings i) .1 n);
-    pendingRanges = pending-ranges-after g inv (j .block) k (inr (job-block g inv s j Asked h));
+    pendingRanges = pending-ranges-after g inv (j .block) k (inr (job-range g inv s j Asked h .2));
     copies = copies-after g (update (g .atMemory) (j .block) k) s o p v (copy-here (held keeps) refl) (λ t c w _ q. inv .copies t c w q ∙ sym (same (g .way t c w .block)));
     mails = update-each (λ t z. (c : ℕ) → GoodMail (update (g .atMemory) (j .block) k) (z c .mail)) (g .mailbox) s after
         (update-each (λ c z. GoodMail (update (g .atMemory) (j .block) k) (z .mail)) (update (g .mailbox s) o yo) (j .requestor) yr
