@@ -44,6 +44,7 @@ NotOwner Memory c x = Unit {0}
 NotOwner OwnCopy c x = Unit {0}
 NotOwner (Owner o p shown keeps writeback) c x = c ≡ o → x ≡ p → ⊥
 
+-- an entry that is not handed over
 pub hand-there : (r : Source) (b : ℕ) (f : ℕ → ℕ → Entry) (c x : ℕ) → NotOwner r c x → handOver r b f c x ≡ f c x
 hand-there Memory b f c x n = refl
 hand-there OwnCopy b f c x n = refl
@@ -68,6 +69,7 @@ giver-source j c p shown keeps writeback r = go (eqb c (j .requestor)) (j .sourc
         at true e q = let co : c ≡ o = eqb-true c o e in cc
         at false e q = grind arith
 
+-- a bystander is neither the requestor nor an owner that hands over
 pub bystander-not : (j : Job) (c : ℕ) → role j c ≡ Bystander → (c ≡ j .requestor → ⊥) × ((x : ℕ) → NotOwner (j .source) c x)
 bystander-not j c r = ((λ e. let z : role j c ≡ Requestor = rw e (requestor-role j) in clash z), λ x. go (j .source) refl x)
   where
@@ -85,6 +87,7 @@ pub record Dismisses (f : ℕ → ℕ → Entry) (j : Job) (c : ℕ) (m : Mail) 
   pub shown : f c place ≡ entryIn S (j .block)
   pub out : m ≡ To (Invalidate c (j .block) place)
 
+-- a cache without mail shows no S of a block that is written
 pub record Leaves (f : ℕ → ℕ → Entry) (j : Job) (c : ℕ) (m : Mail) : Type 0 where
   pub none : m ≡ Nothing
   pub notShared : isWrite (j .access) ≡ true → (x : ℕ) → f c x .state ≡ S → f c x .block ≡ j .block → ⊥

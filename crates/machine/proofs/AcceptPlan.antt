@@ -38,6 +38,7 @@ pub record OwnerPlan (f : ℕ → ℕ → Entry) (j : Job) (o p : ℕ) (shown ke
   pub pair : held keeps ≡ true → goTogether (j .next) keeps ≡ true
   pub sole : isWrite (j .access) ≡ false → (readOnly (j .next) ≡ true) ⊎ (writable shown ≡ true)
 
+-- where the words come from, and what makes that right
 abbrev pub PlannedSource : (ℕ → ℕ → Entry) → Job → Source → Type 0
 PlannedSource f j Memory = (j .upgrade ≡ false) × OthersShare f j × ((c x : ℕ) → (c ≡ j .requestor → ⊥) → held (f c x .state) ≡ true → f c x .block ≡ j .block → isWrite (j .access) ≡ false → readOnly (j .next) ≡ true)
 PlannedSource f j OwnCopy = (j .upgrade ≡ true) × OthersShare f j
@@ -99,6 +100,7 @@ settled-is j f p q r =
     put₂-is 8 4 (handedOver (j .source) (j .block) (λ c w. dismissed (isWrite (j .access)) (j .block) (f c w))) (j .requestor) (j .way) (entryIn (j .next) (j .block)) p q
     ∙ ap (λ h. update₂ h (j .requestor) (j .way) (entryIn (j .next) (j .block))) (handed-over-is (j .source) (j .block) (λ c w. dismissed (isWrite (j .access)) (j .block) (f c w)) r)
 
+-- dismissal and hand-over only let go
 pub handed-weaker : (j : Job) (f : ℕ → ℕ → Entry) (r : Source) → PlannedSource f j r → (c x : ℕ) → Weaker (handOver r (j .block) (λ c w. dismissed (isWrite (j .access)) (j .block) (f c w)) c x) (f c x)
 handed-weaker j f Memory p c x = dismissed-weaker (isWrite (j .access)) (j .block) (f c x)
 handed-weaker j f OwnCopy p c x = dismissed-weaker (isWrite (j .access)) (j .block) (f c x)
@@ -175,6 +177,7 @@ handed-blank Memory b f p = p
 handed-blank OwnCopy b f p = p
 handed-blank (Owner o q shown keeps writeback) b f p = update₂-each (λ c w e. Blank e) f o q (entryIn keeps b) (entry-blank keeps b) (λ c w _. p c w)
 
+-- entries in I still show zeros
 pub settled-blank : (j : Job) (f : ℕ → ℕ → Entry) → ((c w : ℕ) → Blank (f c w)) → (c w : ℕ) → Blank (settle j f c w)
 settled-blank j f p = update₂-each (λ c w e. Blank e) (handed j f) (j .requestor) (j .way) (entryIn (j .next) (j .block)) (entry-blank (j .next) (j .block))
     (λ c w _. handed-blank (j .source) (j .block) (λ c w. dismissed (isWrite (j .access)) (j .block) (f c w)) (λ c w. dismissed-blank (isWrite (j .access)) (j .block) (f c w) (p c w)) c w)

@@ -7,7 +7,6 @@ use Rattle.std.specs.declared.option.Option.the-variants.{Some}
 use Rattle.bedrock.specs.Geometries.{Sizes, setOf}
 use Rattle.protocols.specs.States.{dirty}
 use Rattle.machine.specs.declared.holding.Way.{Way}
-use Rattle.machine.specs.Machines.{home}
 use Rattle.machine.proofs.Updates.{update, update₃, update-each}
 use Rattle.machine.proofs.Ghost.{Progress, BlockAtMemory, Ghost}
 use Rattle.machine.proofs.Invariant.{GoodPending, PendingInRange, DirtyOnTheWay, Newest, Invariant}
@@ -24,6 +23,7 @@ all-blocks n P f a s b h k home here same other i =
     (setOf n i) refl
 
 module _ (g : Ghost) (inv : Invariant g) (s b : ℕ) (h : Progress) (k : BlockAtMemory) (home : setOf (g .geometry) b ≡ s) where
+  -- what is on its way
   pub pendings-after : GoodPending (Some h) b (k .pending) → ((i : ℕ) → (i ≡ b → ⊥) → setOf (g .geometry) i ≡ s → GoodPending (Some h) i (g .atMemory i .pending))
       → (i : ℕ) → GoodPending (update (g .progress) s (Some h) (setOf (g .geometry) i)) i (update (g .atMemory) b k i .pending)
   pendings-after here same = all-blocks (g .geometry) (λ t z i y. GoodPending z i (y .pending)) (g .progress) (g .atMemory) s b (Some h) k home here same (λ t i _ q. rw q at (inv .pendings i))

@@ -5,7 +5,7 @@ use mathlib.Core.Logic.{_⊎_, inl, inr}
 use Prim.Native.Nat.{ℕ, _<_}
 use native.Mathlib.Omega.{arith}
 use Rattle.std.specs.declared.option.Option.{Option}
-use Rattle.std.specs.declared.option.Option.the-variants.{Some}
+use Rattle.std.specs.declared.option.Option.the-variants.{Some, None}
 use Rattle.std.proofs.shelf.Tests.{false≢true}
 use Rattle.bedrock.specs.Geometries.{setOf}
 use Rattle.protocols.specs.declared.state.State.{State}
@@ -79,7 +79,10 @@ pub copies-after : (g : Ghost) (blocks : ℕ → BlockAtMemory) (s c p : ℕ) (v
 copies-after g blocks s c p v here there = update₂-each (λ t d h. (w : ℕ) → GoodCopy blocks (h w)) (g .way) s c (update (g .way s c) p v)
     (update-each (λ w z. GoodCopy blocks z) (g .way s c) p v here (λ w n. there s c w (λ _ _ e. n e))) (λ t d n w. there t d w (λ e f _. n e f))
 
--- one mail is not another
+-- one mail is not another, and none is not some
+pub none-some : {A : Type 0} (o : A) → None ≡ Some o → ⊥
+none-some o e = let z : _≡_ {A = ℕ} 0 1 = cc in omega arith
+
 pub no-answer : {r : Response} {k : Command} → From r ≡ To k → ⊥
 no-answer e = let z : _≡_ {A = ℕ} 0 1 = cc in omega arith
 
@@ -90,6 +93,7 @@ no-mail-to e = let z : _≡_ {A = ℕ} 0 1 = cc in omega arith
 pub newest-progress : (v : ℕ → ℕ → Way) (h i : Option Progress) (b : ℕ) (k : BlockAtMemory) → (DirtyOnTheWay h b → ⊥) → Newest v h b k → Newest v i b k
 newest-progress v h i b k n f = elim f [ inl q ↦ inl q | inr q ↦ inr (elim q [ inl u ↦ inl u | inr u ↦ absurd (n u) ]) ]
 
+-- only at Sent is data on its way
 pub not-sent : (j : Job) (s : Stage) (b : ℕ) → (s ≡ Sent → ⊥) → DirtyOnTheWay (Some (atStage s j)) b → ⊥
 not-sent j s b n q = let e : _≡_ {A = Progress} (atStage s j) (atStage Sent (q .job)) = cc in n (ap (λ z. z .stage) e)
 

@@ -61,6 +61,7 @@ pub record BlockAtMemory : Type 0 where
   pub pending : Pending
   pub latest : Words
 
+-- all of it: what the machine has at each key, and what the proof adds
 pub record Ghost : Type 0 where
   pub geometry : Sizes
   pub entry : ℕ → ℕ → ℕ → Entry            -- set, cache, way: the directory's

@@ -37,6 +37,7 @@ goTogether a b = (sharing a && readOnly b) || (readOnly a && sharing b)
 abbrev pub Apart : ℕ → Entry → ℕ → Entry → Type 0
 Apart c e d f = held (e .state) ≡ true → held (f .state) ≡ true → e .block ≡ f .block → (c ≡ d → ⊥) × (goTogether (e .state) (f .state) ≡ true)
 
+-- any two entries of a set
 abbrev pub AllApart : (ℕ → ℕ → Entry) → Type 0
 AllApart f = (c w d x : ℕ) → (c ≡ d → w ≡ x → ⊥) → Apart c (f c w) d (f d x)
 
@@ -63,6 +64,7 @@ GoodSource j f Memory = (j .upgrade ≡ false) × ((c w : ℕ) → (c ≡ j .req
 GoodSource j f OwnCopy = j .upgrade ≡ true
 GoodSource j f (Owner o p shown keeps writeback) = OwnerLaw j o p shown keeps writeback
 
+-- a job: it is about a block of the set, a Write gives M, an upgrade is a Write
 pub record GoodJob (n : Sizes) (s : ℕ) (f : ℕ → ℕ → Entry) (j : Job) : Type 0 where
   pub here : setOf n (j .block) ≡ s
   pub gets : held (j .next) ≡ true
@@ -76,6 +78,7 @@ GoodProgress n s f (Some h) = GoodJob n s f (h .job)
 
 -- ---- a cache that waits has a request on its way, or a set serves it; never both
 
+-- the requestor still waits for the words
 abbrev pub unfilled : Stage → Bool
 unfilled Evicting = true
 unfilled Clearing = true
@@ -83,10 +86,12 @@ unfilled Asked = true
 unfilled Sent = true
 unfilled Filled = false
 
+-- the set serves cache c
 abbrev pub serves : Option Progress → ℕ → Bool
 serves None c = false
 serves (Some h) c = unfilled (h .stage) && eqb c (h .job .requestor)
 
+-- the order that the cache waits with is the job's, and the request is gone
 pub record Served (j : Job) (d : Waiter) : Type 0 where
   pub order : Order
   pub kept : d .kept ≡ Some order
@@ -94,10 +99,12 @@ pub record Served (j : Job) (d : Waiter) : Type 0 where
   pub access : accessOf order ≡ j .access
   pub noRequest : d .request ≡ None
 
+-- the cache has a request for the order on its way
 pub record Asks (c : ℕ) (d : Waiter) (o : Order) : Type 0 where
   pub way : ℕ
   pub request : d .request ≡ Some (record { access = accessOf o; cache = c; block = blockOf o; way = way })
 
+-- a cache that waits with an order about a block of set s
 abbrev pub GoodWait : Sizes → ℕ → Option Progress → ℕ → Waiter → Type 0
 GoodWait n s None c d = (o : Order) → d .kept ≡ Some o → setOf n (blockOf o) ≡ s → Asks c d o
 GoodWait n s (Some h) c d = When (serves (Some h) c) (Served (h .job) d) ((o : Order) → d .kept ≡ Some o → setOf n (blockOf o) ≡ s → Asks c d o)
@@ -119,11 +126,13 @@ isReading (Reading c w st) = true
 isReading (Coming ws) = false
 isReading (Waiting ws) = false
 
+-- the memory read of a job
 abbrev pub readFor : Job → Source → Pending
 readFor j Memory = Reading (j .requestor) (j .way) (j .next)
 readFor j OwnCopy = Idle
 readFor j (Owner o p shown keeps writeback) = Idle
 
+-- what may be on its way for block b at each stage
 abbrev pub PendingAt : Stage → Job → ℕ → Pending → Type 0
 PendingAt Evicting j b p = p ≡ Idle
 PendingAt Clearing j b p = (isReading p ≡ false) × (b ≡ j .block → p ≡ Idle)

@@ -8,9 +8,9 @@ mod Ghost
 mod Mailboxes
 mod Invariant
 mod StateFacts
-mod NewFabric
 mod Frames
 mod BlockFrames
+mod NewFabric
 mod MailFacts
 mod Promises
 mod StepStore

@@ -60,6 +60,7 @@ sent-at j Requestor c e x ok w n = ok .1 w (n refl)
 sent-at j (Giver p shown keeps writeback) c e x ok w n = ⊎-elim (λ i. rw i (ok .2 .0)) (λ i. ok .1 w i) (cases-eq w p)
 sent-at j Bystander c e x ok w n = ok .0 w
 
+-- the requestor, by its role and by its number
 pub requestor-is : (j : Job) (c : ℕ) → role j c ≡ Requestor → c ≡ j .requestor
 requestor-is j c r = grind (arith, tells)
 

@@ -48,6 +48,7 @@ SameEntries e x = (w : ℕ) → e w ≡ x .known w
 abbrev pub SameBut : ℕ → (ℕ → Entry) → Mailbox → Type 0
 SameBut p e x = (w : ℕ) → (w ≡ p → ⊥) → e w ≡ x .known w
 
+-- no command is out: nothing, or an answer
 abbrev pub NoCommand : Mail → Type 0
 NoCommand x = (x ≡ Nothing) ⊎ ((r : Response) × (x ≡ From r))
 

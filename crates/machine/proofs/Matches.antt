@@ -133,6 +133,7 @@ InRound Asked r = r ≡ Two
 InRound Sent r = r ≡ Two
 InRound Filled r = r ≡ Two
 
+-- both have no transaction, or the same job in the same round
 abbrev pub SameProgress : Option Transaction → Option Progress → Type 0
 SameProgress None None = Unit {0}
 SameProgress None (Some h) = ⊥

@@ -1,22 +1,13 @@
 -- The invariant holds of a new fabric.
-use mathlib.Core.Path.{_≡_, refl}
+use mathlib.Core.Path.{refl}
 use mathlib.Core.Logic.{inl}
 use Prim.Native.Nat.{ℕ}
-use native.Mathlib.Omega.{arith}
-use Rattle.std.specs.declared.option.Option.the-variants.{Some, None}
 use Rattle.std.proofs.shelf.Tests.{false≢true}
 use Rattle.bedrock.specs.declared.words.Words.{Words}
 use Rattle.bedrock.specs.Geometries.{Sizes}
-use Rattle.messages.specs.declared.command.Command.{Command}
-use Rattle.messages.specs.declared.command.Command.the-variants.{SetTagData}
-use Rattle.machine.proofs.Ghost.{Nothing, To, newGhost}
+use Rattle.machine.proofs.Ghost.{newGhost}
 use Rattle.machine.proofs.Invariant.{Invariant}
-
-pub no-mail : (x : Command) → Nothing ≡ To x → ⊥
-no-mail x e = let z : _≡_ {A = ℕ} 0 1 = cc in omega arith
-
-pub none-some : {A : Type 0} (o : A) → None ≡ Some o → ⊥
-none-some o e = let z : _≡_ {A = ℕ} 0 1 = cc in omega arith
+use Rattle.machine.proofs.Frames.{none-some, no-mail-to}
 
 pub new-fabric-good : (n : Sizes) (content : ℕ → Words) → Invariant (newGhost n content)
 new-fabric-good n content = record {
@@ -35,5 +26,5 @@ new-fabric-good n content = record {
   pendingRanges = λ b. inl refl;
   agrees = λ s c w. record { state = refl; block = refl };
   copies = λ s c w h. absurd (false≢true h);
-  mails = λ s c d b w st ws sender e. absurd (no-mail (SetTagData d b w st ws sender) e);
+  mails = λ s c d b w st ws sender e. absurd (no-mail-to e);
   newest = λ b. inl refl }

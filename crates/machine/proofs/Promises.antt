@@ -14,7 +14,7 @@ use Rattle.machine.specs.Coherence.{Agrees}
 use Rattle.machine.proofs.Ghost.{Ghost}
 use Rattle.machine.proofs.Invariant.{Invariant}
 use Rattle.machine.proofs.StateFacts.{shows-held, shows-writable, writable-held, writable-alone}
-use Rattle.machine.proofs.NewFabric.{none-some}
+use Rattle.machine.proofs.Frames.{none-some}
 
 -- a copy that a store hits is the only one
 pub sole-place : (g : Ghost) → Invariant g → (s c w t d x : ℕ) → writable (g .way s c w .state) ≡ true → held (g .way t d x .state) ≡ true
@@ -34,6 +34,7 @@ sole-place g inv s c w t d x h k e = (sets, clash)
     clash n = writable-alone (g .mailbox s c .known w .state) (g .mailbox s d .known x .state) wr
         (copiesApart s c w d x n (writable-held (g .mailbox s c .known w .state) wr) (rw sets at hd) (rw sets at same) .1)
 
+-- and so the only one to hold the block
 pub sole-holder : (g : Ghost) → Invariant g → (s c w t d x : ℕ) → writable (g .way s c w .state) ≡ true → held (g .way t d x .state) ≡ true
     → g .way s c w .block ≡ g .way t d x .block → c ≡ d
 sole-holder g inv s c w t d x h k e = ⊎-elim (λ p. p) (λ n. absurd (sole-place g inv s c w t d x h k e .1 (λ p _. n p))) (cases-eq c d)

@@ -137,6 +137,7 @@ read-only-S M l = absurd (false≢true l)
 read-only-S O l = (refl, refl)
 read-only-S F l = (refl, refl)
 
+-- the order of the two does not matter
 pub together-sym : (a b : State) → goTogether a b ≡ goTogether b a
 together-sym I b = grind arith
 together-sym S b = elim b as (λ b. goTogether S b ≡ goTogether b S) [ I ↦ refl | S ↦ refl | E ↦ refl | M ↦ refl | O ↦ refl | F ↦ refl ]

@@ -32,7 +32,6 @@ use Rattle.machine.proofs.Invariant.{AllApart, AtHome, Blank, GoodSource, Good
 use Rattle.machine.proofs.StateFacts.{owning-held, read-only-held, held-entry}
 use Rattle.machine.proofs.Frames.{newest-progress}
 use Rattle.machine.proofs.MailFacts.{requestor-is}
-use Rattle.machine.proofs.StepStore.{no-data}
 use Rattle.machine.proofs.AcceptPlan.{OwnerPlan, PlannedSource, Plan, handOver, handed, settle, handed-weaker, settled-apart, settled-blank}
 use Rattle.machine.proofs.AcceptEntries.{NotOwner, hand-there, untouched, giver-source, bystander-not, Dismisses, Leaves}
 
@@ -89,7 +88,7 @@ module _ (g : Ghost) (inv : Invariant g) (s : ℕ) (j : Job) (st : Stage) (mail 
   giver-good c p shown keeps writeback r = (update₂-there (handed j f) (j .requestor) (j .way) (entryIn (j .next) (j .block)) c p (λ e _. op .other e)
         ∙ ap (λ z. handOver z (j .block) (λ c w. dismissed (isWrite (j .access)) (j .block) (f c w)) c p) src ∙ update₂-here (λ c w. dismissed (isWrite (j .access)) (j .block) (f c w)) c p (entryIn keeps (j .block)),
       (λ x n. untouched j f c x (λ e _. op .other e) (subst (λ z. NotOwner z c x) (sym src) (λ _ e. n e)) (λ _ u b. once c x p n (held-S (f c x) u) heldp (b ∙ sym blockp)) ∙ same c x),
-      both round-one (sym (same c p) ∙ op .at) noRequest)
+      both round-one (sym (same c p) ∙ op .at) no-mail)
     where
       src : j .source ≡ Owner c p shown keeps writeback
       src = giver-source j c p shown keeps writeback r
@@ -101,8 +100,8 @@ module _ (g : Ghost) (inv : Invariant g) (s : ℕ) (j : Job) (st : Stage) (mail 
       heldp = rw (op .at, en .0) (owning-held shown (op .owned))
       blockp : f c p .block ≡ j .block
       blockp = rw (op .at) (en .1)
-      noRequest : mail c ≡ Nothing
-      noRequest = elim (first c (λ e. op .other e)) [ inr l ↦ l .none | inl q ↦ absurd (twice q (cases-eq (q .place) p)) ]
+      no-mail : mail c ≡ Nothing
+      no-mail = elim (first c (λ e. op .other e)) [ inr l ↦ l .none | inl q ↦ absurd (twice q (cases-eq (q .place) p)) ]
         where
           twice : (q : Dismisses f j c (mail c)) → (q .place ≡ p) ⊎ (q .place ≡ p → ⊥) → ⊥
           twice q (inl e) = let z : entryIn S (j .block) ≡ entryIn shown (j .block) = sym (q .shown) ∙ ap (f c) e ∙ op .at in
@@ -134,7 +133,6 @@ module _ (g : Ghost) (inv : Invariant g) (s : ℕ) (j : Job) (st : Stage) (mail 
 
   job-good : GoodJob (g .geometry) s (settle j f) j
   job-good = record { here = plan .here; gets = plan .gets; writes = plan .writes; upgrades = plan .upgrades; source = go (j .source) refl (plan .source) }
-
     where
       dismissed-held : (t : Bool) (b : ℕ) (e : Entry) → held (dismissed t b e .state) ≡ true → dismissed t b e ≡ e
       dismissed-held false b e h = refl
@@ -173,7 +171,7 @@ module _ (g : Ghost) (inv : Invariant g) (s : ℕ) (j : Job) (st : Stage) (mail 
     pendings = λ b. update-each (λ t z. setOf (g .geometry) b ≡ t → GoodPending z b (g .atMemory b .pending)) (g .progress) s (Some now) (λ e. idle-pending b (g .atMemory b .pending) (pendings b e)) (λ t _ e. rw (← e) (inv .pendings b)) (setOf (g .geometry) b) refl;
     pendingRanges = inv .pendingRanges;
     copies = inv .copies;
-    mails = update-each (λ t z. (c : ℕ) → GoodMail (g .atMemory) (z c .mail)) (g .mailbox) s mailboxesNow (λ c d b w a us sender q. absurd (no-data c d b w a us sender q (cases-eq c (j .requestor)))) (λ t _. inv .mails t);
+    mails = update-each (λ t z. (c : ℕ) → GoodMail (g .atMemory) (z c .mail)) (g .mailbox) s mailboxesNow (λ c d b w a us sender q. absurd (no-data-yet c d b w a us sender q (cases-eq c (j .requestor)))) (λ t _. inv .mails t);
     newest = λ b. update-each (λ t z. setOf (g .geometry) b ≡ t → Newest (g .way t) z b (g .atMemory b)) (g .progress) s (Some now)
         (λ e. newest-progress (g .way s) (g .progress s) (Some now) b (g .atMemory b) (rw idle none-sent) (rw e at (inv .newest b))) (λ t _ e. rw (← e) (inv .newest b)) (setOf (g .geometry) b) refl }
     where
@@ -187,23 +185,22 @@ module _ (g : Ghost) (inv : Invariant g) (s : ℕ) (j : Job) (st : Stage) (mail 
       home-here = update₂-each (λ c w e. AtHome (g .geometry) s c w e) (handed j f) (j .requestor) (j .way) (entryIn (j .next) (j .block))
           (λ _. let en = held-entry (j .next) (j .block) (plan .gets) .1 in (ap (setOf (g .geometry)) en ∙ plan .here, room .0, room .1, subst (λ b. b < g .geometry .blocks) (sym en) (room .2)))
           (λ c w _ h. let a = handed-weaker j f (j .source) (plan .source) c w in let o = inv .entriesHome s c w (a .had h) in (ap (setOf (g .geometry)) (sym (a .same h)) ∙ o .0, o .1, o .2, subst (λ b. b < g .geometry .blocks) (a .same h) (o .3)))
+      -- the order that is served is about this set
+      away : (t : ℕ) → (t ≡ s → ⊥) → (o : Order) → waiterNow .kept ≡ Some o → setOf (g .geometry) (blockOf o) ≡ t → ⊥
+      away t n o e b = let i : o ≡ served .order = cc (e, served .kept) in
+          n (sym b ∙ ap (λ k. setOf (g .geometry) (blockOf k)) i ∙ ap (setOf (g .geometry)) (served .block) ∙ plan .here)
       elsewhere : (t : ℕ) → (t ≡ s → ⊥) → (z : Option Progress) → GoodWait (g .geometry) t z (j .requestor) (g .waiter (j .requestor)) → GoodWait (g .geometry) t z (j .requestor) waiterNow
-      elsewhere t n None q = λ o e b. absurd (away o e b)
-        where
-          away : (o : Order) → waiterNow .kept ≡ Some o → setOf (g .geometry) (blockOf o) ≡ t → ⊥
-          away o e b = let i : o ≡ served .order = cc (e, served .kept) in n (sym b ∙ ap (λ k. setOf (g .geometry) (blockOf k)) i ∙ ap (setOf (g .geometry)) (served .block) ∙ plan .here)
+      elsewhere t n None q = λ o e b. absurd (away t n o e b)
       elsewhere t n (Some z) q = at (serves (Some z) (j .requestor)) q
         where
-          away : (o : Order) → waiterNow .kept ≡ Some o → setOf (g .geometry) (blockOf o) ≡ t → ⊥
-          away o e b = let i : o ≡ served .order = cc (e, served .kept) in n (sym b ∙ ap (λ k. setOf (g .geometry) (blockOf k)) i ∙ ap (setOf (g .geometry)) (served .block) ∙ plan .here)
           at : (b : Bool) → When b (Served (z .job) (g .waiter (j .requestor))) ((o : Order) → g .waiter (j .requestor) .kept ≡ Some o → setOf (g .geometry) (blockOf o) ≡ t → Asks (j .requestor) (g .waiter (j .requestor)) o)
               → When b (Served (z .job) waiterNow) ((o : Order) → waiterNow .kept ≡ Some o → setOf (g .geometry) (blockOf o) ≡ t → Asks (j .requestor) waiterNow o)
           at true u = record { order = u .order; kept = u .kept; block = u .block; access = u .access; noRequest = refl }
-          at false u = λ o e b. absurd (away o e b)
-      no-data : (c d b w : ℕ) (a : State) (us : Words) (sender : Party) → mail c ≡ To (SetTagData d b w a us sender) → (c ≡ j .requestor) ⊎ (c ≡ j .requestor → ⊥) → ⊥
-      no-data c d b w a us sender q (inl i) = own round-one (mine (λ _. noEntry)) (rw i at q)
+          at false u = λ o e b. absurd (away t n o e b)
+      no-data-yet : (c d b w : ℕ) (a : State) (us : Words) (sender : Party) → mail c ≡ To (SetTagData d b w a us sender) → (c ≡ j .requestor) ⊎ (c ≡ j .requestor → ⊥) → ⊥
+      no-data-yet c d b w a us sender q (inl i) = own round-one (mine (λ _. noEntry)) (rw i at q)
         where
           own : (st ≡ Evicting) ⊎ (st ≡ Clearing) → AsRequestor st j (λ _. noEntry) (record { known = g .mailbox s (j .requestor) .known; mail = mail (j .requestor) }) → mail (j .requestor) ≡ To (SetTagData d b w a us sender) → ⊥
           own (inl z) k m = let l = rw z at k in let o = l .out in grind arith
           own (inr z) k m = elim (rw z at k) [ inl l ↦ elim (l .1) [ inl o ↦ grind arith | inr o ↦ grind arith ] | inr l ↦ let o = l .out in grind arith ]
-      no-data c d b w a us sender q (inr n) = elim (first c n) [ inl l ↦ let o = l .out in grind arith | inr l ↦ let o = l .none in grind arith ]
+      no-data-yet c d b w a us sender q (inr n) = elim (first c n) [ inl l ↦ let o = l .out in grind arith | inr l ↦ let o = l .none in grind arith ]

@@ -15,9 +15,11 @@ use Rattle.machine.proofs.Mailboxes.{Role, Requestor, Giver, Bystander, role, 
 use Rattle.machine.proofs.Invariant.{GoodMail, Invariant}
 use Rattle.machine.proofs.Frames.{Weaker, weaker-same, copies-apart-after, copies-home-after, places-after, no-mail-to}
 
+-- the same without mail
 abbrev pub emptied : Mailbox → Mailbox
 emptied x = record { known = x .known; mail = Nothing }
 
+-- an answer is in the mail only where none is fine too
 emptied-at : (j : Job) (s : Stage) (a : Role) (c : ℕ) (e : ℕ → Entry) (x : Mailbox) (r : Response) → x .mail ≡ From r
     → InRole (atStage s j) c e x a → InRole (atStage s j) c e (emptied x) a
 emptied-at j Evicting Requestor c e x r m ok = grind arith

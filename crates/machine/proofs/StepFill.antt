@@ -36,6 +36,7 @@ data-keeps g inv s j ws h good =
     fill-keeps g inv s j Sent ws h refl (me .0, me .1) (me .2 .0) (λ c n. sent-filled j (role j c) c (g .entry s c) (g .mailbox s c) refl n (rw h at (inv .mailboxes s c)))
       (λ b e. rw (e, h) at (inv .pendings b)) good
 
+-- the words are those of the requestor's own copy, or what a store made of them
 pub wakeup-keeps : (g : Ghost) → Invariant g → (s : ℕ) (j : Job) (ws : Words) → g .progress s ≡ Some (atStage Asked j) → j .source ≡ OwnCopy → Invariant (afterFill g s j ws)
 wakeup-keeps g inv s j ws h m =
     let me : InRole (atStage Asked j) (j .requestor) (g .entry s (j .requestor)) (g .mailbox s (j .requestor)) Requestor = rw (requestor-role j) at (rw h at (inv .mailboxes s (j .requestor))) in

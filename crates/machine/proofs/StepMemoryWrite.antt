@@ -30,6 +30,7 @@ block-keeps g inv b k cur new ok range = record {
     same : (i : ℕ) → update (g .atMemory) b k i .latest ≡ g .atMemory i .latest
     same = latest-same (g .atMemory) b k cur
 
+-- what a Writeback may have on its way, a memory write may
 waiting-good : (h : Option Progress) (b : ℕ) (ws : Words) → GoodPending h b (Coming ws) → GoodPending h b (Waiting ws)
 waiting-good None b ws ok = grind arith
 waiting-good (Some h) b ws ok = go (h .stage) ok
@@ -46,6 +47,7 @@ waiting-good (Some h) b ws ok = go (h .stage) ok
     go Sent ok = refl
     go Filled ok = refl
 
+-- the directory passes the words of a Writeback on to the memory
 pub pass-on-keeps : (g : Ghost) → Invariant g → (b : ℕ) (ws : Words) → g .atMemory b .pending ≡ Coming ws
     → Invariant (setBlock g b (record { memory = g .atMemory b .memory; pending = Waiting ws; latest = g .atMemory b .latest }))
 pass-on-keeps g inv b ws p = block-keeps g inv b (record { memory = g .atMemory b .memory; pending = Waiting ws; latest = g .atMemory b .latest }) refl (rw p)
@@ -55,6 +57,7 @@ pass-on-keeps g inv b ws p = block-keeps g inv b (record { memory = g .atMemory 
     coming-range (inl i) = grind arith
     coming-range (inr l) = l
 
+-- and so may nothing
 idle-good : (h : Option Progress) (b : ℕ) (ws : Words) → GoodPending h b (Waiting ws) → GoodPending h b Idle
 idle-good None b ws ok = refl
 idle-good (Some h) b ws ok = go (h .stage) ok
@@ -71,6 +74,7 @@ idle-good (Some h) b ws ok = go (h .stage) ok
     go Sent ok = refl
     go Filled ok = refl
 
+-- the memory takes them
 pub memory-write-keeps : (g : Ghost) → Invariant g → (b : ℕ) (ws : Words) → g .atMemory b .pending ≡ Waiting ws
     → Invariant (setBlock g b (record { memory = ws; pending = Idle; latest = g .atMemory b .latest }))
 memory-write-keeps g inv b ws p = block-keeps g inv b (record { memory = ws; pending = Idle; latest = g .atMemory b .latest }) refl (rw p)

@@ -16,7 +16,6 @@ use Rattle.machine.specs.declared.holding.Way.{Way}
 use Rattle.machine.specs.declared.holding.Entry.{Entry}
 use Rattle.machine.specs.declared.transaction.Job.{Job}
 use Rattle.machine.specs.Holdings.{noEntry, entryIn}
-use Rattle.machine.specs.Machines.{home}
 use Rattle.machine.specs.Coherence.{Agrees}
 use Rattle.machine.proofs.Updates.{update, update₃, update-each, update₂-each, update-here, update-there, update₃-here}
 use Rattle.machine.proofs.Ghost.{To, BlockAtMemory, Ghost, setWay, setBlock}

@@ -32,6 +32,7 @@ use Rattle.machine.proofs.MailFacts.{requestor-is, requestor-role, job-range}
 use Rattle.machine.proofs.StepMemoryRead.{sentMailbox}
 use Rattle.machine.proofs.StepWriteback.{comingIf, coming-no-read}
 
+-- a copy that is read only excludes less than an owner
 weaker-read-only : (shown : State) (b : ℕ) (e : Entry) → owning shown ≡ true → e .block ≡ b → readOnly (e .state) ≡ true → goTogether (e .state) S ≡ true → goTogether S (e .state) ≡ true → Weaker e (entryIn shown b)
 weaker-read-only shown b e o bl l t u =
     let i = held-entry shown b (owning-held shown o) in
@@ -47,34 +48,39 @@ weaker-owner shown M b o k = absurd (false≢true (sym k))
 weaker-owner shown O b o k = weaker-read-only shown b (record { state = O; block = b }) o refl refl refl refl
 weaker-owner shown F b o k = weaker-read-only shown b (record { state = F; block = b }) o refl refl refl refl
 
+-- words are on their way to the memory if the owner was told to write back and its copy was dirty
 abbrev pub comingBack : Bool → Bool → Words → Pending
 comingBack true t ws = comingIf t ws
 comingBack false t ws = Idle
 
+-- the owner goes by its next state at way p
 abbrev pub handedMailbox : Mailbox → ℕ → State → ℕ → Mail → Mailbox
 handedMailbox x p keeps b m = record { known = update (x .known) p (entryIn keeps b); mail = m }
 
+-- the owner's role
 pub giver-is : (j : Job) (o p : ℕ) (shown keeps : State) (writeback : Bool) → j .source ≡ Owner o p shown keeps writeback → (o ≡ j .requestor → ⊥) → role j o ≡ Giver p shown keeps writeback
 giver-is j o p shown keeps writeback m n = rw (ne-eqb o (j .requestor) n, m, eq-eqb o o refl) refl
 
+-- the other caches do not tell Asked from Sent
 sent-rest : (j : Job) (a : Role) (o p c : ℕ) (shown keeps : State) (writeback : Bool) (e : ℕ → Entry) (x : Mailbox) → j .source ≡ Owner o p shown keeps writeback → role j c ≡ a → (c ≡ j .requestor → ⊥) → (c ≡ o → ⊥)
     → InRole (atStage Asked j) c e x a → InRole (atStage Sent j) c e x a
 sent-rest j Requestor o p c shown keeps writeback e x m r n i ok = absurd (n (requestor-is j c r))
 sent-rest j (Giver q w k b) o p c shown keeps writeback e x m r n i ok = grind (arith, tells)
 sent-rest j Bystander o p c shown keeps writeback e x m r n i ok = ok
 
+-- m is what the owner answers: nothing, or what it writes back
 module _ (g : Ghost) (inv : Invariant g) (s : ℕ) (j : Job) (o p : ℕ) (shown keeps : State) (writeback : Bool) (m : Mail)
     (h : g .progress s ≡ Some (atStage Asked j)) (src : j .source ≡ Owner o p shown keeps writeback) (answer : NoCommand m) where
   abbrev now : Progress
   now = atStage Sent j
   abbrev v : Way
   v = wayIn keeps (j .block) (g .way s o p .words)
-  abbrev yo : Mailbox
-  yo = handedMailbox (g .mailbox s o) p keeps (j .block) m
-  abbrev yr : Mailbox
-  yr = sentMailbox j (g .mailbox s (j .requestor)) (g .way s o p .words) (Cache o)
+  abbrev ownerBox : Mailbox
+  ownerBox = handedMailbox (g .mailbox s o) p keeps (j .block) m
+  abbrev requestorBox : Mailbox
+  requestorBox = sentMailbox j (g .mailbox s (j .requestor)) (g .way s o p .words) (Cache o)
   abbrev after : ℕ → Mailbox
-  after = update (update (g .mailbox s) o yo) (j .requestor) yr
+  after = update (update (g .mailbox s) o ownerBox) (j .requestor) requestorBox
   abbrev k : BlockAtMemory
   k = record { memory = g .atMemory (j .block) .memory; pending = comingBack writeback (dirty (g .way s o p .state)) (g .way s o p .words); latest = g .atMemory (j .block) .latest }
 
@@ -91,15 +97,15 @@ module _ (g : Ghost) (inv : Invariant g) (s : ℕ) (j : Job) (o p : ℕ) (shown 
         (ap (setOf (g .geometry)) (sym (a .same q)) ∙ u .0, u .1, u .2, subst (λ b. b < g .geometry .blocks) (a .same q) (u .3))) (λ t _. inv .copiesHome t);
     places = update-each (λ t z. (c : ℕ) → GoodPlace (z c) (g .waiter c)) (g .mailbox) s after
         (λ c q e w hd bl. let a = weak c w in let u = inv .places s c q e w (a .had hd) (a .same hd ∙ bl) in (u .0, u .1, a .readsOnly hd (u .2))) (λ t _. inv .places t);
-    agrees = update-both (λ t z f. (c w : ℕ) → Agrees (z c .known w) (f c w)) (g .mailbox) (g .way) s after (update₂ (g .way s) o p v) (λ c w. rw (old-is c w) (agrees-here c w)) (λ t _. inv .agrees t);
+    agrees = update-both (λ t z f. (c w : ℕ) → Agrees (z c .known w) (f c w)) (g .mailbox) (g .way) s after (update₂ (g .way s) o p v) (λ c w. rw (known-is c w) (agrees-here c w)) (λ t _. inv .agrees t);
     waits = update-each (λ t z. (c : ℕ) → GoodWait (g .geometry) t z c (g .waiter c)) (g .progress) s (Some now) (λ c. rw h at (inv .waits s c)) (λ t _. inv .waits t);
     pendings = pendings-after g inv s (j .block) now k (ok .here) (back-no-read writeback (dirty (g .way s o p .state))) (λ i n q. rw (q, h) at (inv .pendings i) .1 n);
     pendingRanges = pending-ranges-after g inv (j .block) k (inr (job-range g inv s j Asked h .2));
     copies = copies-after g (update (g .atMemory) (j .block) k) s o p v (copy-here (held keeps) refl) (λ t c w _ q. inv .copies t c w q ∙ sym (same (g .way t c w .block)));
     mails = update-each (λ t z. (c : ℕ) → GoodMail (update (g .atMemory) (j .block) k) (z c .mail)) (g .mailbox) s after
-        (update-each (λ c z. GoodMail (update (g .atMemory) (j .block) k) (z .mail)) (update (g .mailbox s) o yo) (j .requestor) yr
+        (update-each (λ c z. GoodMail (update (g .atMemory) (j .block) k) (z .mail)) (update (g .mailbox s) o ownerBox) (j .requestor) requestorBox
           (λ d b w st ws sender q. let e : g .way s o p .words ≡ ws = cc in let i : j .block ≡ b = cc in sym e ∙ latest ∙ ap (λ z. g .atMemory z .latest) i ∙ sym (same b))
-          (λ c _. update-each (λ c z. GoodMail (update (g .atMemory) (j .block) k) (z .mail)) (g .mailbox s) o yo (λ d b w st ws sender q. absurd (no-data-back d b w st ws sender q)) (λ c _ d b w st ws sender q. inv .mails s c d b w st ws sender q ∙ sym (same b)) c))
+          (λ c _. update-each (λ c z. GoodMail (update (g .atMemory) (j .block) k) (z .mail)) (g .mailbox s) o ownerBox (λ d b w st ws sender q. absurd (no-data-back d b w st ws sender q)) (λ c _ d b w st ws sender q. inv .mails s c d b w st ws sender q ∙ sym (same b)) c))
         (λ t _ c d b w st ws sender q. inv .mails t c d b w st ws sender q ∙ sym (same b));
     newest = newest-way-after g inv s (j .block) now k (ok .here) (λ i _. no-dirty-sent i) o p v (λ _. at) (newest-here writeback refl (dirty (g .way s o p .state)) refl) }
     where
@@ -111,23 +117,23 @@ module _ (g : Ghost) (inv : Invariant g) (s : ℕ) (j : Job) (o p : ℕ) (shown 
       me = rw (requestor-role j) at (rw h at (inv .mailboxes s (j .requestor)))
       it : InRole (atStage Asked j) o (g .entry s o) (g .mailbox s o) (Giver p shown keeps writeback)
       it = rw (giver-is j o p shown keeps writeback src (law .other)) at (rw h at (inv .mailboxes s o))
-      gave : InRole now o (g .entry s o) yo (Giver p shown keeps writeback)
+      gave : InRole now o (g .entry s o) ownerBox (Giver p shown keeps writeback)
       gave = (it .0, (λ w n. it .1 w n ∙ sym (update-there (g .mailbox s o .known) p (entryIn keeps (j .block)) w n)), (it .0 ∙ sym (update-here (g .mailbox s o .known) p (entryIn keeps (j .block))), answer))
       mailboxes-here : (c : ℕ) → InRole now c (g .entry s c) (after c) (role j c)
-      mailboxes-here = update-each (λ c z. InRole now c (g .entry s c) z (role j c)) (update (g .mailbox s) o yo) (j .requestor) yr (rw (requestor-role j) (me .0, me .1, (me .2 .0, record { words = g .way s o p .words; sender = Cache o; out = refl })))
-          (λ c n. update-each (λ d z. (d ≡ j .requestor → ⊥) → InRole now d (g .entry s d) z (role j d)) (g .mailbox s) o yo (λ _. rw (giver-is j o p shown keeps writeback src (law .other)) gave)
+      mailboxes-here = update-each (λ c z. InRole now c (g .entry s c) z (role j c)) (update (g .mailbox s) o ownerBox) (j .requestor) requestorBox (rw (requestor-role j) (me .0, me .1, (me .2 .0, record { words = g .way s o p .words; sender = Cache o; out = refl })))
+          (λ c n. update-each (λ d z. (d ≡ j .requestor → ⊥) → InRole now d (g .entry s d) z (role j d)) (g .mailbox s) o ownerBox (λ _. rw (giver-is j o p shown keeps writeback src (law .other)) gave)
             (λ d i q. sent-rest j (role j d) o p d shown keeps writeback (g .entry s d) (g .mailbox s d) src refl q i (rw h at (inv .mailboxes s d))) c n)
-      old-is : (c w : ℕ) → after c .known w ≡ update (g .mailbox s) o yo c .known w
-      old-is = update-each (λ c z. (w : ℕ) → z .known w ≡ update (g .mailbox s) o yo c .known w) (update (g .mailbox s) o yo) (j .requestor) yr
-          (λ w. ap (λ z. z .known w) (sym (update-there (g .mailbox s) o yo (j .requestor) (λ e. law .other (sym e))))) (λ c _ w. refl)
+      known-is : (c w : ℕ) → after c .known w ≡ update (g .mailbox s) o ownerBox c .known w
+      known-is = update-each (λ c z. (w : ℕ) → z .known w ≡ update (g .mailbox s) o ownerBox c .known w) (update (g .mailbox s) o ownerBox) (j .requestor) requestorBox
+          (λ w. ap (λ z. z .known w) (sym (update-there (g .mailbox s) o ownerBox (j .requestor) (λ e. law .other (sym e))))) (λ c _ w. refl)
       shown-is : g .mailbox s o .known p ≡ entryIn shown (j .block)
       shown-is = it .2 .0
       weak : (c w : ℕ) → Weaker (after c .known w) (g .mailbox s c .known w)
-      weak c w = rw (old-is c w) (update-each (λ c z. (w : ℕ) → Weaker (z .known w) (g .mailbox s c .known w)) (g .mailbox s) o yo
+      weak c w = rw (known-is c w) (update-each (λ c z. (w : ℕ) → Weaker (z .known w) (g .mailbox s c .known w)) (g .mailbox s) o ownerBox
           (update-each (λ w z. Weaker z (g .mailbox s o .known w)) (g .mailbox s o .known) p (entryIn keeps (j .block)) (rw shown-is (weaker-owner shown keeps (j .block) (law .owned) (law .letsGo))) (λ w _. weaker-same (g .mailbox s o .known w)))
           (λ c _ w. weaker-same (g .mailbox s c .known w)) c w)
-      agrees-here : (c w : ℕ) → Agrees (update (g .mailbox s) o yo c .known w) (update₂ (g .way s) o p v c w)
-      agrees-here = update-both (λ c z f. (w : ℕ) → Agrees (z .known w) (f w)) (g .mailbox s) (g .way s) o yo (update (g .way s o) p v)
+      agrees-here : (c w : ℕ) → Agrees (update (g .mailbox s) o ownerBox c .known w) (update₂ (g .way s) o p v c w)
+      agrees-here = update-both (λ c z f. (w : ℕ) → Agrees (z .known w) (f w)) (g .mailbox s) (g .way s) o ownerBox (update (g .way s o) p v)
           (update-both (λ w a b. Agrees a b) (g .mailbox s o .known) (g .way s o) p (entryIn keeps (j .block)) v (agrees-in keeps (j .block) (g .way s o p .words)) (λ w _. inv .agrees s o w)) (λ c _. inv .agrees s c)
       back-no-read : (a t : Bool) → isReading (comingBack a t (g .way s o p .words)) ≡ false
       back-no-read true t = coming-no-read t (g .way s o p .words)

@@ -15,7 +15,6 @@ use Rattle.messages.specs.declared.response.Response.{Response}
 use Rattle.machine.specs.declared.holding.Entry.{Entry}
 use Rattle.machine.specs.declared.transaction.Job.{Job}
 use Rattle.machine.specs.Holdings.{noWay, noEntry, entryIn}
-use Rattle.machine.specs.Machines.{home}
 use Rattle.machine.specs.Coherence.{Agrees}
 use Rattle.machine.proofs.Updates.{update, update₂, update₃, update-each, update₂-each, update-both, update-here, update-there}
 use Rattle.machine.proofs.Ghost.{Stage, Evicting, Clearing, Asked, Sent, Filled, Progress, atStage, To, Mailbox, Pending, Idle, Coming, BlockAtMemory, Ghost}
