@@ -20,7 +20,7 @@ use Rattle.machine.proofs.Updates.{update₂-there}
 use Rattle.machine.proofs.Ghost.{Mail, Nothing, To}
 use Rattle.machine.proofs.Mailboxes.{Requestor, Giver, Bystander, giverRole, role}
 use Rattle.machine.proofs.MailFacts.{requestor-role}
-use Rattle.machine.proofs.AcceptPlan.{handOver, handed, settle}
+use Rattle.machine.proofs.AcceptPlan.{handOver, cleared, handed, settle}
 
 -- an entry that is not in S with the block
 dismissed-same : (t : Bool) (b : ℕ) (e : Entry) → (t ≡ true → e .state ≡ S → e .block ≡ b → ⊥) → dismissed t b e ≡ e
@@ -53,7 +53,7 @@ hand-there (Owner o p shown keeps writeback) b f c x n = update₂-there f o p (
 -- an entry that acceptance does not touch
 pub untouched : (j : Job) (f : ℕ → ℕ → Entry) (c x : ℕ) → (c ≡ j .requestor → x ≡ j .way → ⊥) → NotOwner (j .source) c x → (isWrite (j .access) ≡ true → f c x .state ≡ S → f c x .block ≡ j .block → ⊥) → settle j f c x ≡ f c x
 untouched j f c x n o d = update₂-there (handed j f) (j .requestor) (j .way) (entryIn (j .next) (j .block)) c x n
-    ∙ hand-there (j .source) (j .block) (λ c w. dismissed (isWrite (j .access)) (j .block) (f c w)) c x o ∙ dismissed-same (isWrite (j .access)) (j .block) (f c x) d
+    ∙ hand-there (j .source) (j .block) (cleared j f) c x o ∙ dismissed-same (isWrite (j .access)) (j .block) (f c x) d
 
 -- the owner that hands over is the source's
 pub giver-source : (j : Job) (c p : ℕ) (shown keeps : State) (writeback : Bool) → role j c ≡ Giver p shown keeps writeback → j .source ≡ Owner c p shown keeps writeback

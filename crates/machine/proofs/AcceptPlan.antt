@@ -77,8 +77,12 @@ handOver Memory b f = f
 handOver OwnCopy b f = f
 handOver (Owner o p shown keeps writeback) b f = update₂ f o p (entryIn keeps b)
 
+-- sharers of a block that is written are gone
+abbrev pub cleared : Job → (ℕ → ℕ → Entry) → ℕ → ℕ → Entry
+cleared j f c w = dismissed (isWrite (j .access)) (j .block) (f c w)
+
 abbrev pub handed : Job → (ℕ → ℕ → Entry) → ℕ → ℕ → Entry
-handed j f = handOver (j .source) (j .block) (λ c w. dismissed (isWrite (j .access)) (j .block) (f c w))
+handed j f = handOver (j .source) (j .block) (cleared j f)
 
 abbrev pub settle : Job → (ℕ → ℕ → Entry) → ℕ → ℕ → Entry
 settle j f = update₂ (handed j f) (j .requestor) (j .way) (entryIn (j .next) (j .block))
@@ -97,20 +101,20 @@ handed-over-is (Owner o p shown keeps writeback) b f r = put₂-is 8 4 f o p (en
 -- in range these are the entries that the machine records
 pub settled-is : (j : Job) (f : ℕ → ℕ → Entry) → j .requestor < 8 → j .way < 4 → OwnerInRange (j .source) → settled j f ≡ settle j f
 settled-is j f p q r =
-    put₂-is 8 4 (handedOver (j .source) (j .block) (λ c w. dismissed (isWrite (j .access)) (j .block) (f c w))) (j .requestor) (j .way) (entryIn (j .next) (j .block)) p q
-    ∙ ap (λ h. update₂ h (j .requestor) (j .way) (entryIn (j .next) (j .block))) (handed-over-is (j .source) (j .block) (λ c w. dismissed (isWrite (j .access)) (j .block) (f c w)) r)
+    put₂-is 8 4 (handedOver (j .source) (j .block) (cleared j f)) (j .requestor) (j .way) (entryIn (j .next) (j .block)) p q
+    ∙ ap (λ h. update₂ h (j .requestor) (j .way) (entryIn (j .next) (j .block))) (handed-over-is (j .source) (j .block) (cleared j f) r)
 
 -- dismissal and hand-over only let go
-pub handed-weaker : (j : Job) (f : ℕ → ℕ → Entry) (r : Source) → PlannedSource f j r → (c x : ℕ) → Weaker (handOver r (j .block) (λ c w. dismissed (isWrite (j .access)) (j .block) (f c w)) c x) (f c x)
+pub handed-weaker : (j : Job) (f : ℕ → ℕ → Entry) (r : Source) → PlannedSource f j r → (c x : ℕ) → Weaker (handOver r (j .block) (cleared j f) c x) (f c x)
 handed-weaker j f Memory p c x = dismissed-weaker (isWrite (j .access)) (j .block) (f c x)
 handed-weaker j f OwnCopy p c x = dismissed-weaker (isWrite (j .access)) (j .block) (f c x)
-handed-weaker j f (Owner o q shown keeps writeback) p c x = update₂-each (λ c x z. Weaker z (f c x)) (λ c w. dismissed (isWrite (j .access)) (j .block) (f c w)) o q (entryIn keeps (j .block))
+handed-weaker j f (Owner o q shown keeps writeback) p c x = update₂-each (λ c x z. Weaker z (f c x)) (cleared j f) o q (entryIn keeps (j .block))
     (rw (p .at) (weaker-owner shown keeps (j .block) (p .owned) (p .letsGo))) (λ c x _. dismissed-weaker (isWrite (j .access)) (j .block) (f c x)) c x
 
 -- what stays of the block with other caches goes together with what the requestor gets
 beside-next : (j : Job) (f : ℕ → ℕ → Entry) → AllApart f → (isWrite (j .access) ≡ true → j .next ≡ M) → (j .upgrade ≡ true → isWrite (j .access) ≡ true) → (r : Source) → PlannedSource f j r → (c x : ℕ) → (c ≡ j .requestor → ⊥)
-    → held (handOver r (j .block) (λ c w. dismissed (isWrite (j .access)) (j .block) (f c w)) c x .state) ≡ true → handOver r (j .block) (λ c w. dismissed (isWrite (j .access)) (j .block) (f c w)) c x .block ≡ j .block
-    → goTogether (j .next) (handOver r (j .block) (λ c w. dismissed (isWrite (j .access)) (j .block) (f c w)) c x .state) ≡ true
+    → held (handOver r (j .block) (cleared j f) c x .state) ≡ true → handOver r (j .block) (cleared j f) c x .block ≡ j .block
+    → goTogether (j .next) (handOver r (j .block) (cleared j f) c x .state) ≡ true
 beside-next j f ex wr up Memory p c x n h b = go (isWrite (j .access)) refl h b
   where
     go : (t : Bool) → isWrite (j .access) ≡ t → held (dismissed t (j .block) (f c x) .state) ≡ true → dismissed t (j .block) (f c x) .block ≡ j .block → goTogether (j .next) (dismissed t (j .block) (f c x) .state) ≡ true
@@ -124,7 +128,7 @@ beside-next j f ex wr up OwnCopy p c x n h b = go (isWrite (j .access)) refl h b
         let bl : f c x .block ≡ j .block = a .same h ∙ b in absurd (dismissed-not (j .block) (f c x) h bl (p .1 c x n (a .had h) bl))
     go false i h b = absurd (false≢true (sym i ∙ up (p .0)))
 beside-next j f ex wr up (Owner o q shown keeps writeback) p c x n h b =
-    update₂-each (λ c x z. held (z .state) ≡ true → z .block ≡ j .block → goTogether (j .next) (z .state) ≡ true) (λ c w. dismissed (isWrite (j .access)) (j .block) (f c w)) o q (entryIn keeps (j .block)) (λ hk _. let k = entry-held keeps (j .block) hk in rw (held-entry keeps (j .block) k .0) (p .pair k))
+    update₂-each (λ c x z. held (z .state) ≡ true → z .block ≡ j .block → goTogether (j .next) (z .state) ≡ true) (cleared j f) o q (entryIn keeps (j .block)) (λ hk _. let k = entry-held keeps (j .block) hk in rw (held-entry keeps (j .block) k .0) (p .pair k))
       (λ c x i. go (isWrite (j .access)) refl c x i) c x h b
   where
     mate : (c x : ℕ) → (c ≡ o → x ≡ q → ⊥) → held (f c x .state) ≡ true → f c x .block ≡ j .block → goTogether shown (f c x .state) ≡ true
@@ -180,4 +184,4 @@ handed-blank (Owner o q shown keeps writeback) b f p = update₂-each (λ c w e.
 -- entries in I still show zeros
 pub settled-blank : (j : Job) (f : ℕ → ℕ → Entry) → ((c w : ℕ) → Blank (f c w)) → (c w : ℕ) → Blank (settle j f c w)
 settled-blank j f p = update₂-each (λ c w e. Blank e) (handed j f) (j .requestor) (j .way) (entryIn (j .next) (j .block)) (entry-blank (j .next) (j .block))
-    (λ c w _. handed-blank (j .source) (j .block) (λ c w. dismissed (isWrite (j .access)) (j .block) (f c w)) (λ c w. dismissed-blank (isWrite (j .access)) (j .block) (f c w) (p c w)) c w)
+    (λ c w _. handed-blank (j .source) (j .block) (cleared j f) (λ c w. dismissed-blank (isWrite (j .access)) (j .block) (f c w) (p c w)) c w)

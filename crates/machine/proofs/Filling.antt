@@ -37,9 +37,10 @@ filledMailbox j x = record { known = update (x .known) (j .way) (entryIn (j .nex
 
 -- the set is at Filled, the way has the words, they are the latest, and the cache waits no more
 abbrev pub afterFill : Ghost → ℕ → Job → Words → Ghost
-afterFill g s j ws = record { geometry = g .geometry; entry = g .entry; way = update₃ (g .way) s (j .requestor) (j .way) (wayIn (j .next) (j .block) ws);
-  mailbox = update₂ (g .mailbox) s (j .requestor) (filledMailbox j (g .mailbox s (j .requestor))); progress = update (g .progress) s (Some (atStage Filled j));
-  waiter = update (g .waiter) (j .requestor) (record { kept = None; request = None });
+afterFill g s j ws = record {
+  geometry = g .geometry; entry = g .entry; way = update₃ (g .way) s (j .requestor) (j .way) (wayIn (j .next) (j .block) ws);
+  mailbox = update₂ (g .mailbox) s (j .requestor) (filledMailbox j (g .mailbox s (j .requestor)));
+  progress = update (g .progress) s (Some (atStage Filled j)); waiter = update (g .waiter) (j .requestor) (record { kept = None; request = None });
   atMemory = update (g .atMemory) (j .block) (record { memory = g .atMemory (j .block) .memory; pending = g .atMemory (j .block) .pending; latest = ws }) }
 
 -- entries that are the same are as far apart
@@ -113,7 +114,7 @@ module _ (g : Ghost) (inv : Invariant g) (s : ℕ) (j : Job) (st : Stage) (ws : 
             (inv .entriesApart s r (j .way) c w (λ p i. n (sym p) (sym i)) (rw (self .0, en .0) (ok .gets)) (rw e hd) (rw (self .0, en .1, e) (sym bl)) .1)
       clash : (t c w : ℕ) → (t ≡ s → c ≡ r → w ≡ j .way → ⊥) → held (g .way t c w .state) ≡ true → g .way t c w .block ≡ j .block → j .next ≡ M → ⊥
       clash t c w n q e m =
-          let hd : held (g .mailbox t c .known w .state) ≡ true = shows-held (g .mailbox t c .known w .state) (g .way t c w .state) (inv .agrees t c w .state) q in
+          let hd = shows-held (g .mailbox t c .known w .state) (g .way t c w .state) (inv .agrees t c w .state) q in
           let bl : g .mailbox t c .known w .block ≡ j .block = inv .agrees t c w .block ∙ e in
           let ts : t ≡ s = sym (inv .copiesHome t c w hd .0) ∙ ap (setOf (g .geometry)) bl ∙ ok .here in
           clash-in c w (n ts) (rw ts at hd) (rw ts at bl) m

@@ -89,5 +89,7 @@ setBlock g b k = record { geometry = g .geometry; entry = g .entry; way = g .way
 
 -- of a new fabric
 abbrev pub newGhost : Sizes → (ℕ → Words) → Ghost
-newGhost geometry content = record { geometry = geometry; entry = λ _ _ _. noEntry; way = λ _ _ _. noWay; mailbox = λ _ _. record { known = λ _. noEntry; mail = Nothing };
-  progress = λ _. None; waiter = λ _. record { kept = None; request = None }; atMemory = λ b. record { memory = content b; pending = Idle; latest = content b } }
+newGhost geometry content = record {
+  geometry = geometry; entry = λ _ _ _. noEntry; way = λ _ _ _. noWay; mailbox = λ _ _. record { known = λ _. noEntry; mail = Nothing };
+  progress = λ _. None; waiter = λ _. record { kept = None; request = None };
+  atMemory = λ b. record { memory = content b; pending = Idle; latest = content b } }

@@ -78,14 +78,18 @@ filled-at j Requestor c e x ok w = ⊎-elim (λ i. rw i (ok .2 .0)) (λ i. ok .1
 filled-at j (Giver p shown keeps writeback) c e x ok w = ⊎-elim (λ i. rw i (ok .2 .0)) (λ i. ok .1 w i) (cases-eq w p)
 filled-at j Bystander c e x ok w = ok .0 w
 
+-- the requestor's mailbox
+pub requestor-at : (g : Ghost) → Invariant g → (s : ℕ) (j : Job) (st : Stage) → g .progress s ≡ Some (atStage st j)
+    → InRole (atStage st j) (j .requestor) (g .entry s (j .requestor)) (g .mailbox s (j .requestor)) Requestor
+requestor-at g inv s j st h = rw (requestor-role j) at (rw h at (inv .mailboxes s (j .requestor)))
+
 -- the requestor, the way and the block of a job are some that there are
 pub job-range : (g : Ghost) → Invariant g → (s : ℕ) (j : Job) (st : Stage) → g .progress s ≡ Some (atStage st j)
     → (j .requestor < g .geometry .caches) × (j .way < g .geometry .ways) × (j .block < g .geometry .blocks)
 job-range g inv s j st h =
     let r : ℕ = j .requestor in
     let ok : GoodJob (g .geometry) s (g .entry s) j = rw h at (inv .jobs s) in
-    let me : InRole (atStage st j) r (g .entry s r) (g .mailbox s r) Requestor =
-          mailbox-at (g .progress s) j st Requestor r (g .entry s r) (g .mailbox s r) h (requestor-role j) (inv .mailboxes s r) in
+    let me = requestor-at g inv s j st h in
     let en = held-entry (j .next) (j .block) (ok .gets) in
     let there = inv .entriesHome s r (j .way) (rw (me .0, en .0) (ok .gets)) in
     (there .1, there .2, subst (λ b. b < g .geometry .blocks) (ap (λ e. e .block) (me .0) ∙ en .1) (there .3))

@@ -40,8 +40,10 @@ pub record Added : Type 0 where
 
 -- the machine read by keys
 abbrev pub ghostOf : Machine → Added → Ghost
-ghostOf m x = record { geometry = m .geometry; entry = m .entry; way = m .way; mailbox = x .mailbox; progress = x .progress;
-  waiter = λ c. record { kept = m .kept c; request = x .request c }; atMemory = λ b. record { memory = m .memory b; pending = x .pending b; latest = x .latest b } }
+ghostOf m x = record {
+  geometry = m .geometry; entry = m .entry; way = m .way; mailbox = x .mailbox; progress = x .progress;
+  waiter = λ c. record { kept = m .kept c; request = x .request c };
+  atMemory = λ b. record { memory = m .memory b; pending = x .pending b; latest = x .latest b } }
 
 -- ---- at most one message, as a list
 
@@ -164,8 +166,11 @@ slot-is (From x) k e = cc
 
 -- the command that arrives is its mailbox's mail
 pub took-command : (m : Machine) (x : Added) → Matches m x → (i : ℕ) (k : Command) → nth (m .commands) i ≡ Some k → (s c : ℕ) → s ≡ setOf (m .geometry) (commandBlock k) → c ≡ commandCache k
-    → (x .mailbox s c .mail ≡ To k) × (kept-by (toMailbox (m .geometry) s c) (without (m .commands) i) ≡ []) × (kept-by (fromMailbox (m .geometry) s c) (m .responses) ≡ [])
+    → (x .mailbox s c .mail ≡ To k)
+      × (kept-by (toMailbox (m .geometry) s c) (without (m .commands) i) ≡ []) × (kept-by (fromMailbox (m .geometry) s c) (m .responses) ≡ [])
 took-command m x sh i k e s c p q =
-    let r = only-left To From (toMailbox (m .geometry) s c) (m .commands) (kept-by (fromMailbox (m .geometry) s c) (m .responses)) i k (mailSlot (x .mailbox s c .mail)) e
-          (and-from (eqb (setOf (m .geometry) (commandBlock k)) s) (eqb (commandCache k) c) (eq-eqb (setOf (m .geometry) (commandBlock k)) s (sym p)) (eq-eqb (commandCache k) c (sym q))) (sh .mails s c) (slot-short (x .mailbox s c .mail)) in
+    let there = and-from (eqb (setOf (m .geometry) (commandBlock k)) s) (eqb (commandCache k) c)
+          (eq-eqb (setOf (m .geometry) (commandBlock k)) s (sym p)) (eq-eqb (commandCache k) c (sym q)) in
+    let r = only-left To From (toMailbox (m .geometry) s c) (m .commands) (kept-by (fromMailbox (m .geometry) s c) (m .responses)) i k
+          (mailSlot (x .mailbox s c .mail)) e there (sh .mails s c) (slot-short (x .mailbox s c .mail)) in
     (slot-is (x .mailbox s c .mail) k (r .0), r .1, r .2)

@@ -32,7 +32,7 @@ use Rattle.machine.proofs.Invariant.{AllApart, AtHome, Blank, GoodSource, Good
 use Rattle.machine.proofs.StateFacts.{owning-held, read-only-held, held-entry}
 use Rattle.machine.proofs.Frames.{newest-progress}
 use Rattle.machine.proofs.MailFacts.{requestor-is}
-use Rattle.machine.proofs.AcceptPlan.{OwnerPlan, PlannedSource, Plan, handOver, handed, settle, handed-weaker, settled-apart, settled-blank}
+use Rattle.machine.proofs.AcceptPlan.{OwnerPlan, PlannedSource, Plan, handOver, cleared, handed, settle, handed-weaker, settled-apart, settled-blank}
 use Rattle.machine.proofs.AcceptEntries.{NotOwner, hand-there, untouched, giver-source, bystander-not, Dismisses, Leaves}
 
 module _ (g : Ghost) (inv : Invariant g) (s : ℕ) (j : Job) (st : Stage) (mail : ℕ → Mail)
@@ -86,7 +86,7 @@ module _ (g : Ghost) (inv : Invariant g) (s : ℕ) (j : Job) (st : Stage) (mail 
 
   giver-good : (c p : ℕ) (shown keeps : State) (writeback : Bool) → role j c ≡ Giver p shown keeps writeback → InRole now c (settle j f c) (mailboxesNow c) (Giver p shown keeps writeback)
   giver-good c p shown keeps writeback r = (update₂-there (handed j f) (j .requestor) (j .way) (entryIn (j .next) (j .block)) c p (λ e _. op .other e)
-        ∙ ap (λ z. handOver z (j .block) (λ c w. dismissed (isWrite (j .access)) (j .block) (f c w)) c p) src ∙ update₂-here (λ c w. dismissed (isWrite (j .access)) (j .block) (f c w)) c p (entryIn keeps (j .block)),
+        ∙ ap (λ z. handOver z (j .block) (cleared j f) c p) src ∙ update₂-here (cleared j f) c p (entryIn keeps (j .block)),
       (λ x n. untouched j f c x (λ e _. op .other e) (subst (λ z. NotOwner z c x) (sym src) (λ _ e. n e)) (λ _ u b. once c x p n (held-S (f c x) u) heldp (b ∙ sym blockp)) ∙ same c x),
       both round-one (sym (same c p) ∙ op .at) no-mail)
     where
@@ -121,7 +121,7 @@ module _ (g : Ghost) (inv : Invariant g) (s : ℕ) (j : Job) (st : Stage) (mail 
       nb = bystander-not j c r
       gone : (q : Dismisses f j c (mail c)) → settle j f c (q .place) ≡ noEntry
       gone q = update₂-there (handed j f) (j .requestor) (j .way) (entryIn (j .next) (j .block)) c (q .place) (λ e _. nb .0 e)
-          ∙ hand-there (j .source) (j .block) (λ c w. dismissed (isWrite (j .access)) (j .block) (f c w)) c (q .place) (nb .1 (q .place)) ∙ ap₂ (λ t e. dismissed t (j .block) e) (q .writing) (q .shown) ∙ rw (eq-eqb (j .block) (j .block) refl) refl
+          ∙ hand-there (j .source) (j .block) (cleared j f) c (q .place) (nb .1 (q .place)) ∙ ap₂ (λ t e. dismissed t (j .block) e) (q .writing) (q .shown) ∙ rw (eq-eqb (j .block) (j .block) refl) refl
       both : (st ≡ Evicting) ⊎ (st ≡ Clearing) → (SameEntries (settle j f c) (mailboxesNow c) × NoCommand (mail c)) ⊎ Dismissed (settle j f c) (mailboxesNow c) j c → AsBystander st j c (settle j f c) (mailboxesNow c)
       both (inl q) a = rw q a
       both (inr q) a = rw q a
@@ -143,7 +143,7 @@ module _ (g : Ghost) (inv : Invariant g) (s : ℕ) (j : Job) (st : Stage) (mail 
           at false h = refl
       go : (z : Source) → j .source ≡ z → PlannedSource f j z → GoodSource j (settle j f) z
       go Memory i p = (p .0, λ c w n h b.
-          let e : settle j f c w ≡ dismissed (isWrite (j .access)) (j .block) (f c w) = update₂-there (handed j f) (j .requestor) (j .way) (entryIn (j .next) (j .block)) c w (λ q _. n q) ∙ ap (λ z. handOver z (j .block) (λ c w. dismissed (isWrite (j .access)) (j .block) (f c w)) c w) i in
+          let e : settle j f c w ≡ dismissed (isWrite (j .access)) (j .block) (f c w) = update₂-there (handed j f) (j .requestor) (j .way) (entryIn (j .next) (j .block)) c w (λ q _. n q) ∙ ap (λ z. handOver z (j .block) (cleared j f) c w) i in
           let d : settle j f c w ≡ f c w = e ∙ dismissed-held (isWrite (j .access)) (j .block) (f c w) (rw e at h) in
           ap (λ y. y .state) d ∙ p .1 c w n (subst (λ y. held (y .state) ≡ true) d h) (subst (λ y. y .block ≡ j .block) d b))
       go OwnCopy i p = p .0

@@ -28,7 +28,7 @@ use Rattle.machine.proofs.Invariant.{GoodJob, GoodProgress, GoodWait, readFor,
 use Rattle.machine.proofs.StateFacts.{shows-held, surely-clean-is, dirty-held, held-entry}
 use Rattle.machine.proofs.Frames.{Weaker, weaker-same, copies-apart-after, copies-home-after, places-after, not-sent}
 use Rattle.machine.proofs.BlockFrames.{pendings-after, newest-after, pending-ranges-after, latest-same}
-use Rattle.machine.proofs.MailFacts.{requestor-is, requestor-role}
+use Rattle.machine.proofs.MailFacts.{requestor-is, requestor-role, requestor-at}
 
 -- what a memory read on its way tells of the set
 pub record ReadFacts (h : Option Progress) (b c w : ℕ) (st : State) : Type 0 where
@@ -93,7 +93,7 @@ no-dirty-copy g inv s j h m c w di at = go (cases-eq c r) (cases-eq w (j .way))
     same : (c ≡ r → w ≡ j .way → ⊥) → g .entry s c w ≡ g .mailbox s c .known w
     same n = asked-same j (role j c) c (g .entry s c) (g .mailbox s c) m refl (rw h at (inv .mailboxes s c)) w n
     self : InRole (atStage Asked j) r (g .entry s r) (g .mailbox s r) Requestor
-    self = rw (requestor-role j) at (rw h at (inv .mailboxes s r))
+    self = requestor-at g inv s j Asked h
     en : (entryIn (j .next) (j .block) .state ≡ j .next) × (entryIn (j .next) (j .block) .block ≡ j .block)
     en = held-entry (j .next) (j .block) (ok .gets)
     other : (c ≡ r → ⊥) → ⊥
@@ -112,13 +112,15 @@ no-dirty-copy g inv s j h m c w di at = go (cases-eq c r) (cases-eq w (j .way))
 
 -- the set is at Sent, the words are in the mail, and nothing is on its way at the memory
 abbrev pub afterRead : Ghost → ℕ → Job → Words → Ghost
-afterRead g s j ws = record { geometry = g .geometry; entry = g .entry; way = g .way; mailbox = update₂ (g .mailbox) s (j .requestor) (sentMailbox j (g .mailbox s (j .requestor)) ws Directory); progress = update (g .progress) s (Some (atStage Sent j));
-  waiter = g .waiter; atMemory = update (g .atMemory) (j .block) (record { memory = g .atMemory (j .block) .memory; pending = Idle; latest = g .atMemory (j .block) .latest }) }
+afterRead g s j ws = record {
+  geometry = g .geometry; entry = g .entry; way = g .way; waiter = g .waiter; progress = update (g .progress) s (Some (atStage Sent j));
+  mailbox = update₂ (g .mailbox) s (j .requestor) (sentMailbox j (g .mailbox s (j .requestor)) ws Directory);
+  atMemory = update (g .atMemory) (j .block) (record { memory = g .atMemory (j .block) .memory; pending = Idle; latest = g .atMemory (j .block) .latest }) }
 
 pub memory-read-keeps : (g : Ghost) → Invariant g → (s : ℕ) (j : Job) → g .progress s ≡ Some (atStage Asked j) → j .source ≡ Memory → Invariant (afterRead g s j (g .atMemory (j .block) .memory))
 memory-read-keeps g inv s j h m = record {
   mailboxes = update-both (λ t z f. (c : ℕ) → GoodMailbox z c (g .entry t c) (f c)) (g .progress) (g .mailbox) s (Some now) (update (g .mailbox s) r y)
-      (update-each (λ c x. InRole now c (g .entry s c) x (role j c)) (g .mailbox s) r y (rw (requestor-role j) (sent-self (rw (requestor-role j) at (rw h at (inv .mailboxes s r))))) (λ c n. sent-other j (role j c) c (g .entry s c) (g .mailbox s c) m refl n (rw h at (inv .mailboxes s c)))) (λ t _. inv .mailboxes t);
+      (update-each (λ c x. InRole now c (g .entry s c) x (role j c)) (g .mailbox s) r y (rw (requestor-role j) (sent-self (requestor-at g inv s j Asked h))) (λ c n. sent-other j (role j c) c (g .entry s c) (g .mailbox s c) m refl n (rw h at (inv .mailboxes s c)))) (λ t _. inv .mailboxes t);
   jobs = update-each (λ t z. GoodProgress (g .geometry) t (g .entry t) z) (g .progress) s (Some now) ok (λ t _. inv .jobs t);
   entriesApart = inv .entriesApart; entriesHome = inv .entriesHome; blanks = inv .blanks; asks = inv .asks; ranges = inv .ranges;
   copiesApart = copies-apart-after g inv s r y weak;

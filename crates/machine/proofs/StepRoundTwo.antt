@@ -54,8 +54,11 @@ newest-read j (Owner o p shown keeps writeback) ws = refl
 
 -- the set is at Asked
 abbrev pub afterBegin : Ghost → ℕ → Job → Ghost
-afterBegin g s j = record { geometry = g .geometry; entry = g .entry; way = g .way; mailbox = update (g .mailbox) s (λ c. askedMailbox j c (g .mailbox s c)); progress = update (g .progress) s (Some (atStage Asked j));
-  waiter = g .waiter; atMemory = update (g .atMemory) (j .block) (record { memory = g .atMemory (j .block) .memory; pending = readFor j (j .source); latest = g .atMemory (j .block) .latest }) }
+afterBegin g s j = record {
+  geometry = g .geometry; entry = g .entry; way = g .way; waiter = g .waiter; progress = update (g .progress) s (Some (atStage Asked j));
+  mailbox = update (g .mailbox) s (λ c. askedMailbox j c (g .mailbox s c));
+  atMemory = update (g .atMemory) (j .block)
+      (record { memory = g .atMemory (j .block) .memory; pending = readFor j (j .source); latest = g .atMemory (j .block) .latest }) }
 
 -- once all answers of round one are in
 pub round-two-keeps : (g : Ghost) → Invariant g → (s : ℕ) (j : Job) → g .progress s ≡ Some (atStage Clearing j) → ((c : ℕ) → g .mailbox s c .mail ≡ Nothing) → Invariant (afterBegin g s j)

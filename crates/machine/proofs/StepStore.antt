@@ -78,8 +78,12 @@ no-data g inv s c w h t a d k x st ws sender m e = go (cases-eq c a) (cases-eq w
     go (inr n) (inr _) = apart (λ p _. n p)
 
 -- the way takes M and the new words, which are now the latest
+abbrev pub afterStore : Ghost → ℕ → ℕ → ℕ → ℕ → Words → Ghost
+afterStore g s c w b ws = setBlock (setWay g s c w (record { state = M; block = b; words = ws })) b
+    (record { memory = g .atMemory b .memory; pending = g .atMemory b .pending; latest = ws })
+
 pub store-keeps : (g : Ghost) → Invariant g → (s c w b : ℕ) (ws : Words) → g .way s c w .block ≡ b → writable (g .way s c w .state) ≡ true
-    → Invariant (setBlock (setWay g s c w (record { state = M; block = b; words = ws })) b (record { memory = g .atMemory b .memory; pending = g .atMemory b .pending; latest = ws }))
+    → Invariant (afterStore g s c w b ws)
 store-keeps g inv s c w b ws e h = record {
   mailboxes = inv .mailboxes; jobs = inv .jobs; entriesApart = inv .entriesApart; entriesHome = inv .entriesHome; blanks = inv .blanks; waits = inv .waits; asks = inv .asks; ranges = inv .ranges;
   copiesApart = inv .copiesApart; copiesHome = inv .copiesHome; places = inv .places;

@@ -28,7 +28,7 @@ use Rattle.machine.proofs.Invariant.{goTogether, AllApart, AtHome, OwnerLaw, G
 use Rattle.machine.proofs.StateFacts.{shows-owning, owning-held, beside-owner, owner-beside, held-entry, agrees-in, way-is, way-none}
 use Rattle.machine.proofs.Frames.{Weaker, weaker-same, weaker-none, shrinks, copies-after, newest-progress, not-sent, newest-way}
 use Rattle.machine.proofs.BlockFrames.{pendings-after, newest-way-after, pending-ranges-after, latest-same}
-use Rattle.machine.proofs.MailFacts.{requestor-is, requestor-role, job-range}
+use Rattle.machine.proofs.MailFacts.{requestor-is, requestor-role, requestor-at, job-range}
 use Rattle.machine.proofs.StepMemoryRead.{sentMailbox}
 use Rattle.machine.proofs.StepWriteback.{comingIf, coming-no-read}
 
@@ -114,7 +114,7 @@ module _ (g : Ghost) (inv : Invariant g) (s : ℕ) (j : Job) (o p : ℕ) (shown 
       law : OwnerLaw j o p shown keeps writeback
       law = subst (GoodSource j (g .entry s)) src (ok .source)
       me : InRole (atStage Asked j) (j .requestor) (g .entry s (j .requestor)) (g .mailbox s (j .requestor)) Requestor
-      me = rw (requestor-role j) at (rw h at (inv .mailboxes s (j .requestor)))
+      me = requestor-at g inv s j Asked h
       it : InRole (atStage Asked j) o (g .entry s o) (g .mailbox s o) (Giver p shown keeps writeback)
       it = rw (giver-is j o p shown keeps writeback src (law .other)) at (rw h at (inv .mailboxes s o))
       gave : InRole now o (g .entry s o) ownerBox (Giver p shown keeps writeback)

@@ -23,7 +23,7 @@ use Rattle.machine.proofs.Invariant.{GoodProgress, GoodWait, isReading, GoodMa
 use Rattle.machine.proofs.StateFacts.{dirty-held, may-be-dirty-held}
 use Rattle.machine.proofs.Frames.{Weaker, weaker-same, weaker-none, copies-apart-after, copies-home-after, places-after, agrees-after, copies-after, no-answer, newest-progress, not-sent, newest-way}
 use Rattle.machine.proofs.BlockFrames.{pendings-after, newest-way-after, pending-ranges-after, latest-same}
-use Rattle.machine.proofs.MailFacts.{requestor-is, requestor-role}
+use Rattle.machine.proofs.MailFacts.{requestor-is, requestor-role, requestor-at}
 use Rattle.machine.proofs.StepInvalidate.{droppedMailbox}
 
 -- what a Set State with Writeback in the mail tells of the set
@@ -79,16 +79,19 @@ coming-no-read false ws = refl
 
 -- the set is at Clearing
 abbrev pub afterWriteback : Ghost → ℕ → Job → ℕ → ℕ → Response → Ghost
-afterWriteback g s j b p r = record { geometry = g .geometry; entry = g .entry; way = update₃ (g .way) s (j .requestor) p noWay; mailbox = update₂ (g .mailbox) s (j .requestor) (droppedMailbox (g .mailbox s (j .requestor)) p r);
-  progress = update (g .progress) s (Some (atStage Clearing j)); waiter = g .waiter;
-  atMemory = update (g .atMemory) b (record { memory = g .atMemory b .memory; pending = comingIf (dirty (g .way s (j .requestor) p .state)) (g .way s (j .requestor) p .words); latest = g .atMemory b .latest }) }
+afterWriteback g s j b p r = record {
+  geometry = g .geometry; entry = g .entry; way = update₃ (g .way) s (j .requestor) p noWay; waiter = g .waiter;
+  mailbox = update₂ (g .mailbox) s (j .requestor) (droppedMailbox (g .mailbox s (j .requestor)) p r);
+  progress = update (g .progress) s (Some (atStage Clearing j));
+  atMemory = update (g .atMemory) b (record { memory = g .atMemory b .memory; latest = g .atMemory b .latest;
+      pending = comingIf (dirty (g .way s (j .requestor) p .state)) (g .way s (j .requestor) p .words) }) }
 
 -- with what the facts above give
 pub writeback-keeps : (g : Ghost) → Invariant g → (s b : ℕ) (r : Response) (j : Job) → g .progress s ≡ Some (atStage Evicting j)
     → (b ≡ j .block → ⊥) → g .mailbox s (j .requestor) .known (j .way) .block ≡ b → held (g .mailbox s (j .requestor) .known (j .way) .state) ≡ true → j .upgrade ≡ false → Invariant (afterWriteback g s j b (j .way) r)
 writeback-keeps g inv s b r j h other bl hd up = record {
   mailboxes = update-both (λ t z f. (c : ℕ) → GoodMailbox z c (g .entry t c) (f c)) (g .progress) (g .mailbox) s (Some now) (update (g .mailbox s) c y)
-      (update-each (λ d z. InRole now d (g .entry s d) z (role j d)) (g .mailbox s) c y (rw (requestor-role j) (self (rw (requestor-role j) at (rw h at (inv .mailboxes s c)))))
+      (update-each (λ d z. InRole now d (g .entry s d) z (role j d)) (g .mailbox s) c y (rw (requestor-role j) (self (requestor-at g inv s j Evicting h)))
         (λ d n. clearing-other j (role j d) d (g .entry s d) (g .mailbox s d) refl n (rw h at (inv .mailboxes s d)))) (λ t _. inv .mailboxes t);
   jobs = update-each (λ t z. GoodProgress (g .geometry) t (g .entry t) z) (g .progress) s (Some now) (rw h at (inv .jobs s)) (λ t _. inv .jobs t);
   entriesApart = inv .entriesApart; entriesHome = inv .entriesHome; blanks = inv .blanks; asks = inv .asks; ranges = inv .ranges;
