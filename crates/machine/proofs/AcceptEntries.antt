@@ -51,15 +51,18 @@ hand-there OwnCopy b f c x n = refl
 hand-there (Owner o p shown keeps writeback) b f c x n = update₂-there f o p (entryIn keeps b) c x n
 
 -- an entry that acceptance does not touch
-pub untouched : (j : Job) (f : ℕ → ℕ → Entry) (c x : ℕ) → (c ≡ j .requestor → x ≡ j .way → ⊥) → NotOwner (j .source) c x → (isWrite (j .access) ≡ true → f c x .state ≡ S → f c x .block ≡ j .block → ⊥) → settle j f c x ≡ f c x
+pub untouched : (j : Job) (f : ℕ → ℕ → Entry) (c x : ℕ) → (c ≡ j .requestor → x ≡ j .way → ⊥) → NotOwner (j .source) c x
+    → (isWrite (j .access) ≡ true → f c x .state ≡ S → f c x .block ≡ j .block → ⊥) → settle j f c x ≡ f c x
 untouched j f c x n o d = update₂-there (handed j f) (j .requestor) (j .way) (entryIn (j .next) (j .block)) c x n
     ∙ hand-there (j .source) (j .block) (cleared j f) c x o ∙ dismissed-same (isWrite (j .access)) (j .block) (f c x) d
 
 -- the owner that hands over is the source's
-pub giver-source : (j : Job) (c p : ℕ) (shown keeps : State) (writeback : Bool) → role j c ≡ Giver p shown keeps writeback → j .source ≡ Owner c p shown keeps writeback
+pub giver-source : (j : Job) (c p : ℕ) (shown keeps : State) (writeback : Bool) → role j c ≡ Giver p shown keeps writeback
+    → j .source ≡ Owner c p shown keeps writeback
 giver-source j c p shown keeps writeback r = go (eqb c (j .requestor)) (j .source) refl r
   where
-    go : (t : Bool) (z : Source) → j .source ≡ z → cond t Requestor (giverRole z c) ≡ Giver p shown keeps writeback → j .source ≡ Owner c p shown keeps writeback
+    go : (t : Bool) (z : Source) → j .source ≡ z → cond t Requestor (giverRole z c) ≡ Giver p shown keeps writeback
+        → j .source ≡ Owner c p shown keeps writeback
     go true z i q = grind arith
     go false Memory i q = grind arith
     go false OwnCopy i q = grind arith

@@ -40,7 +40,8 @@ pub record OwnerPlan (f : ℕ → ℕ → Entry) (j : Job) (o p : ℕ) (shown ke
 
 -- where the words come from, and what makes that right
 abbrev pub PlannedSource : (ℕ → ℕ → Entry) → Job → Source → Type 0
-PlannedSource f j Memory = (j .upgrade ≡ false) × OthersShare f j × ((c x : ℕ) → (c ≡ j .requestor → ⊥) → held (f c x .state) ≡ true → f c x .block ≡ j .block → isWrite (j .access) ≡ false → readOnly (j .next) ≡ true)
+PlannedSource f j Memory = (j .upgrade ≡ false) × OthersShare f j × ((c x : ℕ) → (c ≡ j .requestor → ⊥) → held (f c x .state) ≡ true
+    → f c x .block ≡ j .block → isWrite (j .access) ≡ false → readOnly (j .next) ≡ true)
 PlannedSource f j OwnCopy = (j .upgrade ≡ true) × OthersShare f j
 PlannedSource f j (Owner o p shown keeps writeback) = OwnerPlan f j o p shown keeps writeback
 
@@ -105,59 +106,72 @@ settled-is j f p q r =
     ∙ ap (λ h. update₂ h (j .requestor) (j .way) (entryIn (j .next) (j .block))) (handed-over-is (j .source) (j .block) (cleared j f) r)
 
 -- dismissal and hand-over only let go
-pub handed-weaker : (j : Job) (f : ℕ → ℕ → Entry) (r : Source) → PlannedSource f j r → (c x : ℕ) → Weaker (handOver r (j .block) (cleared j f) c x) (f c x)
+pub handed-weaker : (j : Job) (f : ℕ → ℕ → Entry) (r : Source) → PlannedSource f j r → (c x : ℕ)
+    → Weaker (handOver r (j .block) (cleared j f) c x) (f c x)
 handed-weaker j f Memory p c x = dismissed-weaker (isWrite (j .access)) (j .block) (f c x)
 handed-weaker j f OwnCopy p c x = dismissed-weaker (isWrite (j .access)) (j .block) (f c x)
 handed-weaker j f (Owner o q shown keeps writeback) p c x = update₂-each (λ c x z. Weaker z (f c x)) (cleared j f) o q (entryIn keeps (j .block))
     (rw (p .at) (weaker-owner shown keeps (j .block) (p .owned) (p .letsGo))) (λ c x _. dismissed-weaker (isWrite (j .access)) (j .block) (f c x)) c x
 
 -- what stays of the block with other caches goes together with what the requestor gets
-beside-next : (j : Job) (f : ℕ → ℕ → Entry) → AllApart f → (isWrite (j .access) ≡ true → j .next ≡ M) → (j .upgrade ≡ true → isWrite (j .access) ≡ true) → (r : Source) → PlannedSource f j r → (c x : ℕ) → (c ≡ j .requestor → ⊥)
+beside-next : (j : Job) (f : ℕ → ℕ → Entry) → AllApart f → (isWrite (j .access) ≡ true → j .next ≡ M)
+    → (j .upgrade ≡ true → isWrite (j .access) ≡ true) → (r : Source) → PlannedSource f j r → (c x : ℕ) → (c ≡ j .requestor → ⊥)
     → held (handOver r (j .block) (cleared j f) c x .state) ≡ true → handOver r (j .block) (cleared j f) c x .block ≡ j .block
     → goTogether (j .next) (handOver r (j .block) (cleared j f) c x .state) ≡ true
 beside-next j f ex wr up Memory p c x n h b = go (isWrite (j .access)) refl h b
   where
-    go : (t : Bool) → isWrite (j .access) ≡ t → held (dismissed t (j .block) (f c x) .state) ≡ true → dismissed t (j .block) (f c x) .block ≡ j .block → goTogether (j .next) (dismissed t (j .block) (f c x) .state) ≡ true
+    go : (t : Bool) → isWrite (j .access) ≡ t → held (dismissed t (j .block) (f c x) .state) ≡ true → dismissed t (j .block) (f c x) .block ≡ j .block
+        → goTogether (j .next) (dismissed t (j .block) (f c x) .state) ≡ true
     go true i h b = let a = dismissed-weaker true (j .block) (f c x) in
         let bl : f c x .block ≡ j .block = a .same h ∙ b in absurd (dismissed-not (j .block) (f c x) h bl (p .1 c x n (a .had h) bl))
     go false i h b = rw (p .1 c x n h b) (read-only-S (j .next) (p .2 c x n h b i) .0)
 beside-next j f ex wr up OwnCopy p c x n h b = go (isWrite (j .access)) refl h b
   where
-    go : (t : Bool) → isWrite (j .access) ≡ t → held (dismissed t (j .block) (f c x) .state) ≡ true → dismissed t (j .block) (f c x) .block ≡ j .block → goTogether (j .next) (dismissed t (j .block) (f c x) .state) ≡ true
+    go : (t : Bool) → isWrite (j .access) ≡ t → held (dismissed t (j .block) (f c x) .state) ≡ true → dismissed t (j .block) (f c x) .block ≡ j .block
+        → goTogether (j .next) (dismissed t (j .block) (f c x) .state) ≡ true
     go true i h b = let a = dismissed-weaker true (j .block) (f c x) in
         let bl : f c x .block ≡ j .block = a .same h ∙ b in absurd (dismissed-not (j .block) (f c x) h bl (p .1 c x n (a .had h) bl))
     go false i h b = absurd (false≢true (sym i ∙ up (p .0)))
 beside-next j f ex wr up (Owner o q shown keeps writeback) p c x n h b =
-    update₂-each (λ c x z. held (z .state) ≡ true → z .block ≡ j .block → goTogether (j .next) (z .state) ≡ true) (cleared j f) o q (entryIn keeps (j .block)) (λ hk _. let k = entry-held keeps (j .block) hk in rw (held-entry keeps (j .block) k .0) (p .pair k))
+    update₂-each (λ c x z. held (z .state) ≡ true → z .block ≡ j .block → goTogether (j .next) (z .state) ≡ true) (cleared j f) o q
+      (entryIn keeps (j .block)) (λ hk _. let k = entry-held keeps (j .block) hk in rw (held-entry keeps (j .block) k .0) (p .pair k))
       (λ c x i. go (isWrite (j .access)) refl c x i) c x h b
   where
     mate : (c x : ℕ) → (c ≡ o → x ≡ q → ⊥) → held (f c x .state) ≡ true → f c x .block ≡ j .block → goTogether shown (f c x .state) ≡ true
     mate c x i h b = let en = held-entry shown (j .block) (owning-held shown (p .owned)) in
-        rw (p .at, en .0) at (ex o q c x (λ a b. i (sym a) (sym b)) (rw (p .at, en .0) (owning-held shown (p .owned))) h (rw (p .at, en .1) (sym b)) .1)
+        rw (p .at, en .0) at (ex o q c x (λ a b. i (sym a) (sym b)) (rw (p .at, en .0) (owning-held shown (p .owned))) h
+          (rw (p .at, en .1) (sym b)) .1)
     only-S : (c x : ℕ) → (c ≡ o → x ≡ q → ⊥) → held (f c x .state) ≡ true → f c x .block ≡ j .block → f c x .state ≡ S
     only-S c x i h b = beside-owner shown (f c x .state) (p .owned) (mate c x i h b)
-    go : (t : Bool) → isWrite (j .access) ≡ t → (c x : ℕ) → (c ≡ o → x ≡ q → ⊥) → held (dismissed t (j .block) (f c x) .state) ≡ true → dismissed t (j .block) (f c x) .block ≡ j .block → goTogether (j .next) (dismissed t (j .block) (f c x) .state) ≡ true
+    go : (t : Bool) → isWrite (j .access) ≡ t → (c x : ℕ) → (c ≡ o → x ≡ q → ⊥) → held (dismissed t (j .block) (f c x) .state) ≡ true
+        → dismissed t (j .block) (f c x) .block ≡ j .block → goTogether (j .next) (dismissed t (j .block) (f c x) .state) ≡ true
     go true i c x u h b = let a = dismissed-weaker true (j .block) (f c x) in
         let bl : f c x .block ≡ j .block = a .same h ∙ b in absurd (dismissed-not (j .block) (f c x) h bl (only-S c x u (a .had h) bl))
-    go false i c x u h b = elim (p .sole i) [ inl l ↦ rw (only-S c x u h b) (read-only-S (j .next) l .0) | inr w ↦ absurd (writable-alone shown (f c x .state) w (mate c x u h b)) ]
+    go false i c x u h b = elim (p .sole i)
+        [ inl l ↦ rw (only-S c x u h b) (read-only-S (j .next) l .0) | inr w ↦ absurd (writable-alone shown (f c x .state) w (mate c x u h b)) ]
 
 apart-update : (f : ℕ → ℕ → Entry) (r w : ℕ) (e : Entry) → AllApart f
-    → ((c x : ℕ) → (c ≡ r → x ≡ w → ⊥) → held (f c x .state) ≡ true → f c x .block ≡ e .block → held (e .state) ≡ true → (c ≡ r → ⊥) × (goTogether (e .state) (f c x .state) ≡ true))
+    → ((c x : ℕ) → (c ≡ r → x ≡ w → ⊥) → held (f c x .state) ≡ true → f c x .block ≡ e .block → held (e .state) ≡ true
+      → (c ≡ r → ⊥) × (goTogether (e .state) (f c x .state) ≡ true))
     → AllApart (update₂ f r w e)
 apart-update f r w e ex new c a d x n = update₂-each (λ c a z. (d x : ℕ) → (c ≡ d → a ≡ x → ⊥) → Apart c z d (update₂ f r w e d x)) f r w e
-    (λ d x n. update₂-each (λ d x z. (r ≡ d → w ≡ x → ⊥) → Apart r e d z) f r w e (λ m. absurd (m refl refl)) (λ d x i m h k b. let o = new d x i k (sym b) h in ((λ p. o .0 (sym p)), o .1)) d x n)
-    (λ c a i d x n. update₂-each (λ d x z. (c ≡ d → a ≡ x → ⊥) → Apart c (f c a) d z) f r w e (λ m h k b. let o = new c a i h b k in (o .0, together-sym (f c a .state) (e .state) ∙ o .1)) (λ d x _ m. ex c a d x m) d x n)
+    (λ d x n. update₂-each (λ d x z. (r ≡ d → w ≡ x → ⊥) → Apart r e d z) f r w e (λ m. absurd (m refl refl))
+      (λ d x i m h k b. let o = new d x i k (sym b) h in ((λ p. o .0 (sym p)), o .1)) d x n)
+    (λ c a i d x n. update₂-each (λ d x z. (c ≡ d → a ≡ x → ⊥) → Apart c (f c a) d z) f r w e
+      (λ m h k b. let o = new c a i h b k in (o .0, together-sym (f c a .state) (e .state) ∙ o .1)) (λ d x _ m. ex c a d x m) d x n)
     c a d x n
 
 -- the entries that acceptance leaves exclude one another
 pub settled-apart : (n : Sizes) (s : ℕ) (f : ℕ → ℕ → Entry) (j : Job) → Plan n s f j → AllApart f → AllApart (settle j f)
 settled-apart n s f j plan ex = apart-update (handed j f) (j .requestor) (j .way) (entryIn (j .next) (j .block)) (shrinks f (handed j f) weak ex)
     (λ c x i h b _. let en = held-entry (j .next) (j .block) (plan .gets) in let bl : handed j f c x .block ≡ j .block = b ∙ en .1 in
-      (λ p. alone c x i p h bl, rw (en .0) (beside-next j f ex (plan .writes) (plan .upgrades) (j .source) (plan .source) c x (λ p. alone c x i p h bl) h bl)))
+      (λ p. alone c x i p h bl,
+        rw (en .0) (beside-next j f ex (plan .writes) (plan .upgrades) (j .source) (plan .source) c x (λ p. alone c x i p h bl) h bl)))
   where
     weak : (c x : ℕ) → Weaker (handed j f c x) (f c x)
     weak = handed-weaker j f (j .source) (plan .source)
-    alone : (c x : ℕ) → (c ≡ j .requestor → x ≡ j .way → ⊥) → c ≡ j .requestor → held (handed j f c x .state) ≡ true → handed j f c x .block ≡ j .block → ⊥
+    alone : (c x : ℕ) → (c ≡ j .requestor → x ≡ j .way → ⊥) → c ≡ j .requestor → held (handed j f c x .state) ≡ true
+        → handed j f c x .block ≡ j .block → ⊥
     alone c x i p h b = go (j .upgrade) refl
       where
         hd : held (f c x .state) ≡ true
@@ -166,7 +180,8 @@ settled-apart n s f j plan ex = apart-update (handed j f) (j .requestor) (j .way
         bl = weak c x .same h ∙ b
         go : (t : Bool) → j .upgrade ≡ t → ⊥
         go false u = plan .notShown u x (rw p at hd) (rw p at bl)
-        go true u = let k = plan .copy u in ex c x (j .requestor) (j .way) i hd (read-only-held (f (j .requestor) (j .way) .state) (k .1)) (bl ∙ sym (k .0)) .0 p
+        go true u = let k = plan .copy u in
+            ex c x (j .requestor) (j .way) i hd (read-only-held (f (j .requestor) (j .way) .state) (k .1)) (bl ∙ sym (k .0)) .0 p
 
 dismissed-blank : (t : Bool) (b : ℕ) (e : Entry) → Blank e → Blank (dismissed t b e)
 dismissed-blank false b e p = p
@@ -183,5 +198,6 @@ handed-blank (Owner o q shown keeps writeback) b f p = update₂-each (λ c w e.
 
 -- entries in I still show zeros
 pub settled-blank : (j : Job) (f : ℕ → ℕ → Entry) → ((c w : ℕ) → Blank (f c w)) → (c w : ℕ) → Blank (settle j f c w)
-settled-blank j f p = update₂-each (λ c w e. Blank e) (handed j f) (j .requestor) (j .way) (entryIn (j .next) (j .block)) (entry-blank (j .next) (j .block))
+settled-blank j f p =
+    update₂-each (λ c w e. Blank e) (handed j f) (j .requestor) (j .way) (entryIn (j .next) (j .block)) (entry-blank (j .next) (j .block))
     (λ c w _. handed-blank (j .source) (j .block) (cleared j f) (λ c w. dismissed-blank (isWrite (j .access)) (j .block) (f c w) (p c w)) c w)

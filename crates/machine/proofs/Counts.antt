@@ -38,7 +38,8 @@ response-heavy n s c k e = let p = and-parts (eqb (setOf n (responseBlock k)) s)
 
 writes-back-heavy : (n : Sizes) (s b : ℕ) → setOf n b ≡ s → (k : Response) → writesBack b k ≡ true → 0 < responseWeight n s k
 writes-back-heavy n s b e (InvalidateAck c d) g = absurd (false≢true g)
-writes-back-heavy n s b e (Writeback c d ws) g = let p : setOf n d ≡ s = ap (setOf n) (eqb-true d b g) ∙ e in rw (eq-eqb (setOf n d) s p) (omega arith)
+writes-back-heavy n s b e (Writeback c d ws) g = let p : setOf n d ≡ s = ap (setOf n) (eqb-true d b g) ∙ e in
+    rw (eq-eqb (setOf n d) s p) (omega arith)
 writes-back-heavy n s b e (NullWriteback c d) g = absurd (false≢true g)
 writes-back-heavy n s b e (CoherenceAck c d) g = absurd (false≢true g)
 

@@ -34,7 +34,8 @@ pub weaker-same : (e : Entry) → Weaker e e
 weaker-same e = record { had = λ h. h; same = λ _. refl; left = λ _ _ t. t; right = λ _ _ t. t; readsOnly = λ _ l. l }
 
 pub weaker-none : (e : Entry) → Weaker noEntry e
-weaker-none e = record { had = λ h. absurd (false≢true h); same = λ h. absurd (false≢true h); left = λ _ h. absurd (false≢true h); right = λ _ h. absurd (false≢true h); readsOnly = λ h. absurd (false≢true h) }
+weaker-none e = record { had = λ h. absurd (false≢true h); same = λ h. absurd (false≢true h); left = λ _ h. absurd (false≢true h);
+    right = λ _ h. absurd (false≢true h); readsOnly = λ h. absurd (false≢true h) }
 
 -- entries that exclude less are still apart
 pub shrinks : (f g : ℕ → ℕ → Entry) → ((c w : ℕ) → Weaker (g c w) (f c w)) → AllApart f → AllApart g
@@ -46,7 +47,8 @@ shrinks f g we ex c w d x n h k e =
 -- one mailbox changes, and the cache goes by less than before
 module _ (g : Ghost) (inv : Invariant g) (s c : ℕ) (y : Mailbox) (weak : (w : ℕ) → Weaker (y .known w) (g .mailbox s c .known w)) where
   all-weaker : (t d : ℕ) (w : ℕ) → Weaker (update₂ (g .mailbox) s c y t d .known w) (g .mailbox t d .known w)
-  all-weaker = update₂-each (λ t d z. (w : ℕ) → Weaker (z .known w) (g .mailbox t d .known w)) (g .mailbox) s c y weak (λ t d _ w. weaker-same (g .mailbox t d .known w))
+  all-weaker = update₂-each (λ t d z. (w : ℕ) → Weaker (z .known w) (g .mailbox t d .known w)) (g .mailbox) s c y weak
+      (λ t d _ w. weaker-same (g .mailbox t d .known w))
 
   pub copies-apart-after : (t : ℕ) → AllApart (λ d. update₂ (g .mailbox) s c y t d .known)
   copies-apart-after t = shrinks (λ d. g .mailbox t d .known) (λ d. update₂ (g .mailbox) s c y t d .known) (all-weaker t) (inv .copiesApart t)
@@ -60,18 +62,22 @@ module _ (g : Ghost) (inv : Invariant g) (s c : ℕ) (y : Mailbox) (weak : (w : 
       let r = inv .places t d q e w (a .had h) (a .same h ∙ k) in (r .0, r .1, a .readsOnly h (r .2))
 
 -- a dirty copy elsewhere, or one that stays dirty
-pub dirty-after : (f : ℕ → ℕ → ℕ → Way) (s c p : ℕ) (v : Way) → (dirty (f s c p .state) ≡ true → (dirty (v .state) ≡ true) × (v .block ≡ f s c p .block))
+pub dirty-after : (f : ℕ → ℕ → ℕ → Way) (s c p : ℕ) (v : Way)
+    → (dirty (f s c p .state) ≡ true → (dirty (v .state) ≡ true) × (v .block ≡ f s c p .block))
     → (t b : ℕ) → DirtyCopy (f t) b → DirtyCopy (update₃ f s c p v t) b
 dirty-after f s c p v still t b q =
     let r = update₂-each (λ u d h. (w : ℕ) → dirty (f u d w .state) ≡ true → (dirty (h w .state) ≡ true) × (h w .block ≡ f u d w .block))
-          f s c (update (f s c) p v) (update-each (λ w z. dirty (f s c w .state) ≡ true → (dirty (z .state) ≡ true) × (z .block ≡ f s c w .block)) (f s c) p v still (λ w _ h. (h, refl)))
+          f s c (update (f s c) p v)
+            (update-each (λ w z. dirty (f s c w .state) ≡ true → (dirty (z .state) ≡ true) × (z .block ≡ f s c w .block)) (f s c) p v still
+              (λ w _ h. (h, refl)))
           (λ u d _ w h. (h, refl)) t (q .cache) (q .way) (q .state) in
     record { cache = q .cache; way = q .way; state = r .0; block = r .1 ∙ q .block }
 
 -- one way changes, and its mailbox
 pub agrees-after : (g : Ghost) → Invariant g → (s c p : ℕ) (v : Way) (y : Mailbox) → ((w : ℕ) → Agrees (y .known w) (update (g .way s c) p v w))
     → (t d w : ℕ) → Agrees (update₂ (g .mailbox) s c y t d .known w) (update₃ (g .way) s c p v t d w)
-agrees-after g inv s c p v y here = update₂-both (λ t d z h. (w : ℕ) → Agrees (z .known w) (h w)) (g .mailbox) (g .way) s c y (update (g .way s c) p v) here (λ t d _. inv .agrees t d)
+agrees-after g inv s c p v y here = update₂-both (λ t d z h. (w : ℕ) → Agrees (z .known w) (h w)) (g .mailbox) (g .way) s c y
+    (update (g .way s c) p v) here (λ t d _. inv .agrees t d)
 
 -- one way changes: every copy has the latest words
 pub copies-after : (g : Ghost) (blocks : ℕ → BlockAtMemory) (s c p : ℕ) (v : Way) → GoodCopy blocks v
@@ -90,7 +96,8 @@ pub no-mail-to : {k : Command} → Nothing ≡ To k → ⊥
 no-mail-to e = let z : _≡_ {A = ℕ} 0 1 = cc in omega arith
 
 -- no dirty data was on its way in the set: then its progress does not matter
-pub newest-progress : (v : ℕ → ℕ → Way) (h i : Option Progress) (b : ℕ) (k : BlockAtMemory) → (DirtyOnTheWay h b → ⊥) → Newest v h b k → Newest v i b k
+pub newest-progress : (v : ℕ → ℕ → Way) (h i : Option Progress) (b : ℕ) (k : BlockAtMemory) → (DirtyOnTheWay h b → ⊥) → Newest v h b k
+    → Newest v i b k
 newest-progress v h i b k n f = elim f [ inl q ↦ inl q | inr q ↦ inr (elim q [ inl u ↦ inl u | inr u ↦ absurd (n u) ]) ]
 
 -- only at Sent is data on its way
@@ -101,12 +108,15 @@ not-sent j s b n q = let e : _≡_ {A = Progress} (atStage s j) (atStage Sent (q
 pub newest-way : (f : ℕ → ℕ → ℕ → Way) (s c p : ℕ) (v : Way) (t : ℕ) (h : Option Progress) (b : ℕ) (k : BlockAtMemory) → Newest (f t) h b k
     → (t ≡ s → dirty (f s c p .state) ≡ true → f s c p .block ≡ b → Newest (update₃ f s c p v t) h b k) → Newest (update₃ f s c p v t) h b k
 newest-way f s c p v t h b k fr mine = elim fr [ inl q ↦ inl q | inr q ↦ elim q [ inr u ↦ inr (inr u) | inl u ↦
-    elim (cases t (u .cache) (u .way) (u .state) (u .block)) [ inl z ↦ inr (inl (record { cache = u .cache; way = u .way; state = z .0; block = z .1 })) | inr z ↦ mine (z .0) (z .1) (z .2) ] ] ]
+    elim (cases t (u .cache) (u .way) (u .state) (u .block))
+      [ inl z ↦ inr (inl (record { cache = u .cache; way = u .way; state = z .0; block = z .1 })) | inr z ↦ mine (z .0) (z .1) (z .2) ] ] ]
   where
     cases : (u d w : ℕ) → dirty (f u d w .state) ≡ true → f u d w .block ≡ b
         → ((dirty (update₃ f s c p v u d w .state) ≡ true) × (update₃ f s c p v u d w .block ≡ b)) ⊎ ((u ≡ s) × (dirty (f s c p .state) ≡ true) × (f s c p .block ≡ b))
-    cases = update₂-each (λ u d z. (w : ℕ) → dirty (f u d w .state) ≡ true → f u d w .block ≡ b → ((dirty (z w .state) ≡ true) × (z w .block ≡ b)) ⊎ ((u ≡ s) × (dirty (f s c p .state) ≡ true) × (f s c p .block ≡ b)))
+    cases = update₂-each (λ u d z. (w : ℕ) → dirty (f u d w .state) ≡ true → f u d w .block ≡ b
+        → ((dirty (z w .state) ≡ true) × (z w .block ≡ b)) ⊎ ((u ≡ s) × (dirty (f s c p .state) ≡ true) × (f s c p .block ≡ b)))
         f s c (update (f s c) p v)
-        (update-each (λ w z. dirty (f s c w .state) ≡ true → f s c w .block ≡ b → ((dirty (z .state) ≡ true) × (z .block ≡ b)) ⊎ ((s ≡ s) × (dirty (f s c p .state) ≡ true) × (f s c p .block ≡ b)))
+        (update-each (λ w z. dirty (f s c w .state) ≡ true → f s c w .block ≡ b
+          → ((dirty (z .state) ≡ true) × (z .block ≡ b)) ⊎ ((s ≡ s) × (dirty (f s c p .state) ≡ true) × (f s c p .block ≡ b)))
           (f s c) p v (λ x y. inr (refl, x, y)) (λ w _ x y. inl (x, y)))
         (λ u d _ w x y. inl (x, y))

@@ -73,19 +73,24 @@ pub record Ghost : Type 0 where
 
 -- One part changed.
 abbrev pub setWay : Ghost → ℕ → ℕ → ℕ → Way → Ghost
-setWay g s c w v = record { geometry = g .geometry; entry = g .entry; way = update₃ (g .way) s c w v; mailbox = g .mailbox; progress = g .progress; waiter = g .waiter; atMemory = g .atMemory }
+setWay g s c w v = record { geometry = g .geometry; entry = g .entry; way = update₃ (g .way) s c w v; mailbox = g .mailbox; progress = g .progress;
+    waiter = g .waiter; atMemory = g .atMemory }
 
 abbrev pub setMailbox : Ghost → ℕ → ℕ → Mailbox → Ghost
-setMailbox g s c x = record { geometry = g .geometry; entry = g .entry; way = g .way; mailbox = update₂ (g .mailbox) s c x; progress = g .progress; waiter = g .waiter; atMemory = g .atMemory }
+setMailbox g s c x = record { geometry = g .geometry; entry = g .entry; way = g .way; mailbox = update₂ (g .mailbox) s c x; progress = g .progress;
+    waiter = g .waiter; atMemory = g .atMemory }
 
 abbrev pub setProgress : Ghost → ℕ → Option Progress → Ghost
-setProgress g s h = record { geometry = g .geometry; entry = g .entry; way = g .way; mailbox = g .mailbox; progress = update (g .progress) s h; waiter = g .waiter; atMemory = g .atMemory }
+setProgress g s h = record { geometry = g .geometry; entry = g .entry; way = g .way; mailbox = g .mailbox; progress = update (g .progress) s h;
+    waiter = g .waiter; atMemory = g .atMemory }
 
 abbrev pub setWaiter : Ghost → ℕ → Waiter → Ghost
-setWaiter g c d = record { geometry = g .geometry; entry = g .entry; way = g .way; mailbox = g .mailbox; progress = g .progress; waiter = update (g .waiter) c d; atMemory = g .atMemory }
+setWaiter g c d = record { geometry = g .geometry; entry = g .entry; way = g .way; mailbox = g .mailbox; progress = g .progress;
+    waiter = update (g .waiter) c d; atMemory = g .atMemory }
 
 abbrev pub setBlock : Ghost → ℕ → BlockAtMemory → Ghost
-setBlock g b k = record { geometry = g .geometry; entry = g .entry; way = g .way; mailbox = g .mailbox; progress = g .progress; waiter = g .waiter; atMemory = update (g .atMemory) b k }
+setBlock g b k = record { geometry = g .geometry; entry = g .entry; way = g .way; mailbox = g .mailbox; progress = g .progress; waiter = g .waiter;
+    atMemory = update (g .atMemory) b k }
 
 -- of a new fabric
 abbrev pub newGhost : Sizes → (ℕ → Words) → Ghost

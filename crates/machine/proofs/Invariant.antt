@@ -60,7 +60,8 @@ pub record OwnerLaw (j : Job) (o p : ℕ) (shown keeps : State) (writeback : Boo
 
 -- words come from the memory only where every other cache that shows the block shows S
 abbrev pub GoodSource : Job → (ℕ → ℕ → Entry) → Source → Type 0
-GoodSource j f Memory = (j .upgrade ≡ false) × ((c w : ℕ) → (c ≡ j .requestor → ⊥) → held (f c w .state) ≡ true → f c w .block ≡ j .block → f c w .state ≡ S)
+GoodSource j f Memory =
+    (j .upgrade ≡ false) × ((c w : ℕ) → (c ≡ j .requestor → ⊥) → held (f c w .state) ≡ true → f c w .block ≡ j .block → f c w .state ≡ S)
 GoodSource j f OwnCopy = j .upgrade ≡ true
 GoodSource j f (Owner o p shown keeps writeback) = OwnerLaw j o p shown keeps writeback
 

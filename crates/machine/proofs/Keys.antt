@@ -40,7 +40,8 @@ module _ {A : Type 0} (p : A → Bool) where
       go false pz ih = let h = ih (rw pz at k) in (h .0, rw pz (h .1))
 
 -- two lists that have at most one such element together: where the first has it, nothing else is left
-pub only-left : {A B C : Type 0} (f : A → C) (h : B → C) (p : A → Bool) (xs : List A) (us : List B) (i : ℕ) (x : A) (ms : List C) → nth xs i ≡ Some x → p x ≡ true
+pub only-left : {A B C : Type 0} (f : A → C) (h : B → C) (p : A → Bool) (xs : List A) (us : List B) (i : ℕ) (x : A) (ms : List C) → nth xs i ≡ Some x
+    → p x ≡ true
     → map f (kept-by p xs) ++ map h us ≡ ms → length ms ≤ 1 → (ms ≡ f x ∷ []) × (kept-by p (without xs i) ≡ []) × (us ≡ [])
 only-left {A} {B} {C} f h p xs us i x ms e t k short = go (kept-by p xs) refl us refl
   where

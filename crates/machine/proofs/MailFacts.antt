@@ -30,7 +30,8 @@ pub record DataFacts (h : Option Progress) (c : ℕ) (e : ℕ → Entry) (x : Ma
   pub entry : e (job .way) ≡ entryIn (job .next) (job .block)
   pub before : BeforeFill job (x .known (job .way))
 
-data-at : (j : Job) (s : Stage) (a : Role) (c : ℕ) (e : ℕ → Entry) (x : Mailbox) (d b w : ℕ) (st : State) (ws : Words) (sender : Party) → x .mail ≡ To (SetTagData d b w st ws sender)
+data-at : (j : Job) (s : Stage) (a : Role) (c : ℕ) (e : ℕ → Entry) (x : Mailbox) (d b w : ℕ) (st : State) (ws : Words) (sender : Party)
+    → x .mail ≡ To (SetTagData d b w st ws sender)
     → role j c ≡ a → InRole (atStage s j) c e x a → DataFacts (Some (atStage s j)) c e x d b w st
 data-at j Evicting Requestor c e x d b w st ws sender m i ok = grind arith
 data-at j Clearing Requestor c e x d b w st ws sender m i ok = grind arith
@@ -49,13 +50,15 @@ data-at j Asked Bystander c e x d b w st ws sender m i ok = grind arith
 data-at j Sent Bystander c e x d b w st ws sender m i ok = grind arith
 data-at j Filled Bystander c e x d b w st ws sender m i ok = grind arith
 
-pub data-facts : (h : Option Progress) (c : ℕ) (e : ℕ → Entry) (x : Mailbox) (d b w : ℕ) (st : State) (ws : Words) (sender : Party) → x .mail ≡ To (SetTagData d b w st ws sender)
+pub data-facts : (h : Option Progress) (c : ℕ) (e : ℕ → Entry) (x : Mailbox) (d b w : ℕ) (st : State) (ws : Words) (sender : Party)
+    → x .mail ≡ To (SetTagData d b w st ws sender)
     → GoodMailbox h c e x → DataFacts h c e x d b w st
 data-facts None c e x d b w st ws sender m ok = grind arith
 data-facts (Some h) c e x d b w st ws sender m ok = data-at (h .job) (h .stage) (role (h .job) c) c e x d b w st ws sender m refl ok
 
 -- once the words are on their way, only the requestor's way differs from its entry
-pub sent-at : (j : Job) (a : Role) (c : ℕ) (e : ℕ → Entry) (x : Mailbox) → InRole (atStage Sent j) c e x a → (w : ℕ) → (a ≡ Requestor → w ≡ j .way → ⊥) → e w ≡ x .known w
+pub sent-at : (j : Job) (a : Role) (c : ℕ) (e : ℕ → Entry) (x : Mailbox) → InRole (atStage Sent j) c e x a → (w : ℕ)
+    → (a ≡ Requestor → w ≡ j .way → ⊥) → e w ≡ x .known w
 sent-at j Requestor c e x ok w n = ok .1 w (n refl)
 sent-at j (Giver p shown keeps writeback) c e x ok w n = ⊎-elim (λ i. rw i (ok .2 .0)) (λ i. ok .1 w i) (cases-eq w p)
 sent-at j Bystander c e x ok w n = ok .0 w
@@ -68,7 +71,8 @@ pub requestor-role : (j : Job) → role j (j .requestor) ≡ Requestor
 requestor-role j = rw (eq-eqb (j .requestor) (j .requestor) refl)
 
 -- a mailbox, with the set's progress and the cache's role as they are
-pub mailbox-at : (h : Option Progress) (j : Job) (s : Stage) (a : Role) (c : ℕ) (e : ℕ → Entry) (x : Mailbox) → h ≡ Some (atStage s j) → role j c ≡ a → GoodMailbox h c e x
+pub mailbox-at : (h : Option Progress) (j : Job) (s : Stage) (a : Role) (c : ℕ) (e : ℕ → Entry) (x : Mailbox) → h ≡ Some (atStage s j) → role j c ≡ a
+    → GoodMailbox h c e x
     → InRole (atStage s j) c e x a
 mailbox-at h j s a c e x i r ok = rw r at (rw i at ok)
 

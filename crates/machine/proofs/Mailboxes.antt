@@ -90,7 +90,8 @@ pub record DataOut (j : Job) (m : Mail) : Type 0 where
 
 abbrev pub AsRequestor : Stage → Job → (ℕ → Entry) → Mailbox → Type 0
 AsRequestor Evicting j e x = Leaving x j mayBeDirty (λ b. SetStateWriteback (j .requestor) b (j .way))
-AsRequestor Clearing j e x = (BeforeFill j (x .known (j .way)) × NoCommand (x .mail)) ⊎ Leaving x j surelyClean (λ b. Invalidate (j .requestor) b (j .way))
+AsRequestor Clearing j e x =
+    (BeforeFill j (x .known (j .way)) × NoCommand (x .mail)) ⊎ Leaving x j surelyClean (λ b. Invalidate (j .requestor) b (j .way))
 AsRequestor Asked j e x = BeforeFill j (x .known (j .way)) × (x .mail ≡ wakeupMail j (j .source))
 AsRequestor Sent j e x = BeforeFill j (x .known (j .way)) × DataOut j (x .mail)
 AsRequestor Filled j e x = (e (j .way) ≡ x .known (j .way)) × ((x .mail ≡ Nothing) ⊎ (x .mail ≡ From (CoherenceAck (j .requestor) (j .block))))
@@ -104,7 +105,8 @@ StillOwner j p shown x out = (x .known p ≡ entryIn shown (j .block)) × (x .ma
 abbrev pub AsGiver : Stage → Job → ℕ → ℕ → State → State → Bool → (ℕ → Entry) → Mailbox → Type 0
 AsGiver Evicting j c p shown keeps writeback e x = StillOwner j p shown x Nothing
 AsGiver Clearing j c p shown keeps writeback e x = StillOwner j p shown x Nothing
-AsGiver Asked j c p shown keeps writeback e x = StillOwner j p shown x (To (Transfer c (j .block) p (j .requestor) (j .way) keeps (j .next) writeback))
+AsGiver Asked j c p shown keeps writeback e x =
+    StillOwner j p shown x (To (Transfer c (j .block) p (j .requestor) (j .way) keeps (j .next) writeback))
 AsGiver Sent j c p shown keeps writeback e x = (e p ≡ x .known p) × NoCommand (x .mail)
 AsGiver Filled j c p shown keeps writeback e x = (e p ≡ x .known p) × NoCommand (x .mail)
 
@@ -129,8 +131,10 @@ AsBystander Filled j c e x = SameEntries e x × (x .mail ≡ Nothing)
 -- ---- all roles
 
 abbrev pub InRole : Progress → ℕ → (ℕ → Entry) → Mailbox → Role → Type 0
-InRole h c e x Requestor = (e (h .job .way) ≡ entryIn (h .job .next) (h .job .block)) × SameBut (h .job .way) e x × AsRequestor (h .stage) (h .job) e x
-InRole h c e x (Giver p shown keeps writeback) = (e p ≡ entryIn keeps (h .job .block)) × SameBut p e x × AsGiver (h .stage) (h .job) c p shown keeps writeback e x
+InRole h c e x Requestor =
+    (e (h .job .way) ≡ entryIn (h .job .next) (h .job .block)) × SameBut (h .job .way) e x × AsRequestor (h .stage) (h .job) e x
+InRole h c e x (Giver p shown keeps writeback) =
+    (e p ≡ entryIn keeps (h .job .block)) × SameBut p e x × AsGiver (h .stage) (h .job) c p shown keeps writeback e x
 InRole h c e x Bystander = AsBystander (h .stage) (h .job) c e x
 
 -- without a transaction the cache knows all entries, and nothing is on its way

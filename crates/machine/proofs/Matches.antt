@@ -147,9 +147,11 @@ SameProgress (Some t) (Some h) = (t .job ≡ h .job) × InRound (h .stage) (t .r
 pub record Matches (m : Machine) (x : Added) : Type 0 where
   pub serving : (s : ℕ) → SameProgress (m .serving s) (x .progress s)
   pub requests : (c : ℕ) → kept-by (λ q. eqb (q .cache) c) (m .requests) ≡ requestSlot (x .request c)
-  pub mails : (s c : ℕ) → map To (kept-by (toMailbox (m .geometry) s c) (m .commands)) ++ map From (kept-by (fromMailbox (m .geometry) s c) (m .responses))
+  pub mails : (s c : ℕ)
+      → map To (kept-by (toMailbox (m .geometry) s c) (m .commands)) ++ map From (kept-by (fromMailbox (m .geometry) s c) (m .responses))
       ≡ mailSlot (x .mailbox s c .mail)
-  pub pendings : (b : ℕ) → map pendingOf (kept-by (atBlock b) (m .memoryCommands)) ++ map pendingIn (kept-by (writesBack b) (m .responses)) ≡ pendingSlot (x .pending b)
+  pub pendings : (b : ℕ)
+      → map pendingOf (kept-by (atBlock b) (m .memoryCommands)) ++ map pendingIn (kept-by (writesBack b) (m .responses)) ≡ pendingSlot (x .pending b)
   pub weights : (s : ℕ) → m .count s ≡ weigh (commandWeight (m .geometry) s) (m .commands)
       + (weigh (responseWeight (m .geometry) s) (m .responses) + (weigh (memoryWeight (m .geometry) s) (m .memoryCommands) + ackOwed (m .serving s)))
   pub left : (s : ℕ) → Left (m .serving s) (weigh (commandOne (m .geometry) s) (m .commands) + weigh (responseWeight (m .geometry) s) (m .responses))
@@ -165,7 +167,8 @@ slot-is (To x) k e = cc
 slot-is (From x) k e = cc
 
 -- the command that arrives is its mailbox's mail
-pub took-command : (m : Machine) (x : Added) → Matches m x → (i : ℕ) (k : Command) → nth (m .commands) i ≡ Some k → (s c : ℕ) → s ≡ setOf (m .geometry) (commandBlock k) → c ≡ commandCache k
+pub took-command : (m : Machine) (x : Added) → Matches m x → (i : ℕ) (k : Command) → nth (m .commands) i ≡ Some k → (s c : ℕ)
+    → s ≡ setOf (m .geometry) (commandBlock k) → c ≡ commandCache k
     → (x .mailbox s c .mail ≡ To k)
       × (kept-by (toMailbox (m .geometry) s c) (without (m .commands) i) ≡ []) × (kept-by (fromMailbox (m .geometry) s c) (m .responses) ≡ [])
 took-command m x sh i k e s c p q =

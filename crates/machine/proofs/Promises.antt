@@ -29,7 +29,8 @@ sole-place g inv s c w t d x h k e = (sets, clash)
     same : g .mailbox s c .known w .block ≡ g .mailbox t d .known x .block
     same = agrees s c w .block ∙ e ∙ sym (agrees t d x .block)
     sets : t ≡ s
-    sets = sym (copiesHome t d x hd .0) ∙ ap (setOf (g .geometry)) (sym same) ∙ copiesHome s c w (writable-held (g .mailbox s c .known w .state) wr) .0
+    sets =
+        sym (copiesHome t d x hd .0) ∙ ap (setOf (g .geometry)) (sym same) ∙ copiesHome s c w (writable-held (g .mailbox s c .known w .state) wr) .0
     clash : (c ≡ d → w ≡ x → ⊥) → ⊥
     clash n = writable-alone (g .mailbox s c .known w .state) (g .mailbox s d .known x .state) wr
         (copiesApart s c w d x n (writable-held (g .mailbox s c .known w .state) wr) (rw sets at hd) (rw sets at same) .1)
@@ -43,7 +44,8 @@ sole-holder g inv s c w t d x h k e = ⊎-elim (λ p. p) (λ n. absurd (sole-pla
 pub settled-agrees : (g : Ghost) → Invariant g → ((s : ℕ) → g .progress s ≡ None) → (s c w : ℕ) → Agrees (g .entry s c w) (g .way s c w)
 settled-agrees g inv idle s c w = let q = rw (idle s) at (inv .mailboxes s c) in rw (q .0 w) (inv .agrees s c w)
 
-pub settled-idle : (g : Ghost) → Invariant g → ((s : ℕ) → g .progress s ≡ None) → ((c : ℕ) → g .waiter c .request ≡ None) → (c : ℕ) → g .waiter c .kept ≡ None
+pub settled-idle : (g : Ghost) → Invariant g → ((s : ℕ) → g .progress s ≡ None) → ((c : ℕ) → g .waiter c .request ≡ None) → (c : ℕ)
+    → g .waiter c .kept ≡ None
 settled-idle g inv idle none c = go (g .waiter c .kept) refl
   where
     go : (o : Option Order) → g .waiter c .kept ≡ o → o ≡ None

@@ -101,12 +101,14 @@ owned-row st r o two three four =
       gets = k .0;
       oneOwner = not-both (owning (r .owner)) (owning (r .requestor)) (k .1);
       sole = λ w. let e = and-parts (writable st) (sameState (r .owner) I)
-          (implied (owning st && writable (r .requestor)) (writable st && sameState (r .owner) I) three (and-from (owning st) (writable (r .requestor)) o w)) in
+          (implied (owning st && writable (r .requestor)) (writable st && sameState (r .owner) I) three
+            (and-from (owning st) (writable (r .requestor)) o w)) in
         (e .0, is-I (r .owner) (e .1));
       covered = four }
 
 -- the four tests, one by one
-laws : (st : State) (r : Row) → lawful st r ≡ true → (unownedLaw st r ≡ true) × (handoverLaw st r ≡ true) × (exclusiveLaw st r ≡ true) × (dirtyLaw st r ≡ true)
+laws : (st : State) (r : Row) → lawful st r ≡ true
+    → (unownedLaw st r ≡ true) × (handoverLaw st r ≡ true) × (exclusiveLaw st r ≡ true) × (dirtyLaw st r ≡ true)
 laws st r h =
     let p = and-parts (unownedLaw st r) (handoverLaw st r && (exclusiveLaw st r && dirtyLaw st r)) h in
     let q = and-parts (handoverLaw st r) (exclusiveLaw st r && dirtyLaw st r) (p .1) in

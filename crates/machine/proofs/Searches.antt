@@ -17,7 +17,8 @@ lowest-none p zero e k l = absurd (none l)
     none l = omega arith
 lowest-none p (suc n) e k l = go (lowest p n) refl (lowest-none p n) e
   where
-    go : (q : Option ℕ) → lowest p n ≡ q → (lowest p n ≡ None → (k : ℕ) → k < n → p k ≡ false) → (elim q as (λ _. Option ℕ) [ Some a ↦ Some a | None ↦ cond (p n) (Some n) None ]) ≡ None → p k ≡ false
+    go : (q : Option ℕ) → lowest p n ≡ q → (lowest p n ≡ None → (k : ℕ) → k < n → p k ≡ false)
+        → (elim q as (λ _. Option ℕ) [ Some a ↦ Some a | None ↦ cond (p n) (Some n) None ]) ≡ None → p k ≡ false
     go (Some a) i ih e = cc
     go None i ih e = at (p n) refl e
       where
@@ -33,7 +34,8 @@ pub lowest-below : (p : ℕ → Bool) (n k : ℕ) → lowest p n ≡ Some k → 
 lowest-below p zero k e = grind arith
 lowest-below p (suc n) k e = go (lowest p n) refl (lowest-below p n k) e
   where
-    go : (q : Option ℕ) → lowest p n ≡ q → (lowest p n ≡ Some k → k < n) → (elim q as (λ _. Option ℕ) [ Some a ↦ Some a | None ↦ cond (p n) (Some n) None ]) ≡ Some k → k < suc n
+    go : (q : Option ℕ) → lowest p n ≡ q → (lowest p n ≡ Some k → k < n)
+        → (elim q as (λ _. Option ℕ) [ Some a ↦ Some a | None ↦ cond (p n) (Some n) None ]) ≡ Some k → k < suc n
     go (Some a) i ih e = let l = ih (i ∙ e) in omega arith
     go None i ih e = at (p n) refl e
       where
@@ -45,7 +47,8 @@ pub lowest-passes : (p : ℕ → Bool) (n k : ℕ) → lowest p n ≡ Some k →
 lowest-passes p zero k e = cc
 lowest-passes p (suc n) k e = go (lowest p n) refl (lowest-passes p n k) e
   where
-    go : (q : Option ℕ) → lowest p n ≡ q → (lowest p n ≡ Some k → p k ≡ true) → (elim q as (λ _. Option ℕ) [ Some a ↦ Some a | None ↦ cond (p n) (Some n) None ]) ≡ Some k → p k ≡ true
+    go : (q : Option ℕ) → lowest p n ≡ q → (lowest p n ≡ Some k → p k ≡ true)
+        → (elim q as (λ _. Option ℕ) [ Some a ↦ Some a | None ↦ cond (p n) (Some n) None ]) ≡ Some k → p k ≡ true
     go (Some a) i ih e = ih (i ∙ e)
     go None i ih e = at (p n) refl e
       where

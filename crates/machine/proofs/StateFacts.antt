@@ -181,7 +181,8 @@ agrees-in M b ws = record { state = refl; block = refl }
 agrees-in O b ws = record { state = refl; block = refl }
 agrees-in F b ws = record { state = refl; block = refl }
 
-pub way-is : (st : State) (b : ℕ) (ws : Words) → held st ≡ true → (wayIn st b ws .state ≡ st) × (wayIn st b ws .block ≡ b) × (wayIn st b ws .words ≡ ws)
+pub way-is : (st : State) (b : ℕ) (ws : Words) → held st ≡ true
+    → (wayIn st b ws .state ≡ st) × (wayIn st b ws .block ≡ b) × (wayIn st b ws .words ≡ ws)
 way-is I b ws h = absurd (false≢true h)
 way-is S b ws h = (refl, refl, refl)
 way-is E b ws h = (refl, refl, refl)

@@ -38,20 +38,25 @@ emptied-at j Asked Bystander c e x r m ok = grind arith
 emptied-at j Sent Bystander c e x r m ok = grind arith
 emptied-at j Filled Bystander c e x r m ok = grind arith
 
-emptied-good : (h : Option Progress) (c : ℕ) (e : ℕ → Entry) (x : Mailbox) (r : Response) → x .mail ≡ From r → GoodMailbox h c e x → GoodMailbox h c e (emptied x)
+emptied-good : (h : Option Progress) (c : ℕ) (e : ℕ → Entry) (x : Mailbox) (r : Response) → x .mail ≡ From r → GoodMailbox h c e x
+    → GoodMailbox h c e (emptied x)
 emptied-good None c e x r m ok = (ok .0, refl)
 emptied-good (Some h) c e x r m ok = emptied-at (h .job) (h .stage) (role (h .job) c) c e x r m ok
 
-pub answer-keeps : (g : Ghost) → Invariant g → (s c : ℕ) (r : Response) → g .mailbox s c .mail ≡ From r → Invariant (setMailbox g s c (emptied (g .mailbox s c)))
+pub answer-keeps : (g : Ghost) → Invariant g → (s c : ℕ) (r : Response) → g .mailbox s c .mail ≡ From r
+    → Invariant (setMailbox g s c (emptied (g .mailbox s c)))
 answer-keeps g inv s c r m = record {
-  mailboxes = update₂-each (λ t a z. GoodMailbox (g .progress t) a (g .entry t a) z) (g .mailbox) s c y (emptied-good (g .progress s) c (g .entry s c) (g .mailbox s c) r m (inv .mailboxes s c)) (λ t a _. inv .mailboxes t a);
-  jobs = inv .jobs; entriesApart = inv .entriesApart; entriesHome = inv .entriesHome; blanks = inv .blanks; waits = inv .waits; asks = inv .asks; ranges = inv .ranges; pendings = inv .pendings; pendingRanges = inv .pendingRanges;
+  mailboxes = update₂-each (λ t a z. GoodMailbox (g .progress t) a (g .entry t a) z) (g .mailbox) s c y
+      (emptied-good (g .progress s) c (g .entry s c) (g .mailbox s c) r m (inv .mailboxes s c)) (λ t a _. inv .mailboxes t a);
+  jobs = inv .jobs; entriesApart = inv .entriesApart; entriesHome = inv .entriesHome; blanks = inv .blanks; waits = inv .waits; asks = inv .asks;
+      ranges = inv .ranges; pendings = inv .pendings; pendingRanges = inv .pendingRanges;
   copiesApart = copies-apart-after g inv s c y weak;
   copiesHome = copies-home-after g inv s c y weak;
   places = places-after g inv s c y weak;
   agrees = update₂-each (λ t a z. (w : ℕ) → Agrees (z .known w) (g .way t a w)) (g .mailbox) s c y (inv .agrees s c) (λ t a _. inv .agrees t a);
   copies = inv .copies;
-  mails = update₂-each (λ t a z. GoodMail (g .atMemory) (z .mail)) (g .mailbox) s c y (λ _ _ _ _ _ _ q. absurd (no-mail-to q)) (λ t a _. inv .mails t a);
+  mails =
+      update₂-each (λ t a z. GoodMail (g .atMemory) (z .mail)) (g .mailbox) s c y (λ _ _ _ _ _ _ q. absurd (no-mail-to q)) (λ t a _. inv .mails t a);
   newest = inv .newest }
   where
     y : Mailbox

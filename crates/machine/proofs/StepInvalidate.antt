@@ -29,17 +29,22 @@ droppedMailbox x p r = record { known = update (x .known) p noEntry; mail = From
 
 -- the requestor lets go of the block that its way had
 victim-drops : (j : Job) (c : ℕ) (e : ℕ → Entry) (x : Mailbox) (d b p : ℕ) (r : Response) → x .mail ≡ To (Invalidate d b p)
-    → InRole (atStage Clearing j) c e x Requestor → (surelyClean (x .known p .state) ≡ true) × InRole (atStage Clearing j) c e (droppedMailbox x p r) Requestor
+    → InRole (atStage Clearing j) c e x Requestor
+    → (surelyClean (x .known p .state) ≡ true) × InRole (atStage Clearing j) c e (droppedMailbox x p r) Requestor
 victim-drops j c e x d b p r m ok = elim (ok .2) [ inl q ↦ grind arith
     | inr l ↦ let pw : p ≡ j .way = cc (m, l .out) in
-        (rw pw (l .state), (ok .0, (λ w n. ok .1 w n ∙ sym (update-there (x .known) p noEntry w (rw pw n))), inl (rw (l .noUpgrade, pw) (update-here (x .known) (j .way) noEntry), inr (r, refl)))) ]
+        (rw pw (l .state),
+          (ok .0, (λ w n. ok .1 w n ∙ sym (update-there (x .known) p noEntry w (rw pw n))),
+            inl (rw (l .noUpgrade, pw) (update-here (x .known) (j .way) noEntry), inr (r, refl)))) ]
 
 -- a sharer lets go of a block that is written
 sharer-drops : (j : Job) (c : ℕ) (e : ℕ → Entry) (x : Mailbox) (d b p : ℕ) (r : Response) → x .mail ≡ To (Invalidate d b p)
-    → InRole (atStage Clearing j) c e x Bystander → (surelyClean (x .known p .state) ≡ true) × InRole (atStage Clearing j) c e (droppedMailbox x p r) Bystander
+    → InRole (atStage Clearing j) c e x Bystander
+    → (surelyClean (x .known p .state) ≡ true) × InRole (atStage Clearing j) c e (droppedMailbox x p r) Bystander
 sharer-drops j c e x d b p r m ok = elim ok [ inl q ↦ grind arith
     | inr l ↦ let pw : p ≡ l .place = cc (m, l .out) in
-        (rw (pw, l .shown) refl, inl (update-each (λ w o. e w ≡ o) (x .known) p noEntry (rw pw (l .final)) (λ w n. l .rest w (rw pw at n)), inr (r, refl))) ]
+        (rw (pw, l .shown) refl,
+          inl (update-each (λ w o. e w ≡ o) (x .known) p noEntry (rw pw (l .final)) (λ w n. l .rest w (rw pw at n)), inr (r, refl))) ]
 
 -- nobody else has an Invalidate in the mail; what is let go of was surely clean
 pub drops-at : (j : Job) (st : Stage) (a : Role) (c : ℕ) (e : ℕ → Entry) (x : Mailbox) (d b p : ℕ) (r : Response) → x .mail ≡ To (Invalidate d b p)
@@ -69,14 +74,18 @@ pub invalidate-keeps : (g : Ghost) → Invariant g → (s c d b p : ℕ) (r : Re
     → Invariant (setWay (setMailbox g s c (droppedMailbox (g .mailbox s c) p r)) s c p noWay)
 invalidate-keeps g inv s c d b p r m = record {
   mailboxes = update₂-each (λ t a z. GoodMailbox (g .progress t) a (g .entry t a) z) (g .mailbox) s c y (here .1) (λ t a _. inv .mailboxes t a);
-  jobs = inv .jobs; entriesApart = inv .entriesApart; entriesHome = inv .entriesHome; blanks = inv .blanks; waits = inv .waits; asks = inv .asks; ranges = inv .ranges; pendings = inv .pendings; pendingRanges = inv .pendingRanges;
+  jobs = inv .jobs; entriesApart = inv .entriesApart; entriesHome = inv .entriesHome; blanks = inv .blanks; waits = inv .waits; asks = inv .asks;
+      ranges = inv .ranges; pendings = inv .pendings; pendingRanges = inv .pendingRanges;
   copiesApart = copies-apart-after g inv s c y weak;
   copiesHome = copies-home-after g inv s c y weak;
   places = places-after g inv s c y weak;
-  agrees = agrees-after g inv s c p noWay y (update-both (λ w o v. Agrees o v) (x .known) (g .way s c) p noEntry noWay (record { state = refl; block = refl }) (λ w _. inv .agrees s c w));
+  agrees = agrees-after g inv s c p noWay y
+      (update-both (λ w o v. Agrees o v) (x .known) (g .way s c) p noEntry noWay (record { state = refl; block = refl }) (λ w _. inv .agrees s c w));
   copies = copies-after g (g .atMemory) s c p noWay (λ h. absurd (false≢true h)) (λ t a w _. inv .copies t a w);
-  mails = update₂-each (λ t a z. GoodMail (g .atMemory) (z .mail)) (g .mailbox) s c y (λ _ _ _ _ _ _ q. absurd (no-answer q)) (λ t a _. inv .mails t a);
-  newest = λ k. elim (inv .newest k) [ inl q ↦ inl q | inr q ↦ inr (elim q [ inl u ↦ inl (dirty-after (g .way) s c p noWay clean (setOf (g .geometry) k) k u) | inr u ↦ inr u ]) ] }
+  mails =
+      update₂-each (λ t a z. GoodMail (g .atMemory) (z .mail)) (g .mailbox) s c y (λ _ _ _ _ _ _ q. absurd (no-answer q)) (λ t a _. inv .mails t a);
+  newest = λ k. elim (inv .newest k)
+      [ inl q ↦ inl q | inr q ↦ inr (elim q [ inl u ↦ inl (dirty-after (g .way) s c p noWay clean (setOf (g .geometry) k) k u) | inr u ↦ inr u ]) ] }
   where
     x : Mailbox
     x = g .mailbox s c

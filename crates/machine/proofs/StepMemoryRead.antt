@@ -65,12 +65,14 @@ abbrev pub sentMailbox : Job → Mailbox → Words → Party → Mailbox
 sentMailbox j x ws sender = record { known = x .known; mail = To (SetTagData (j .requestor) (j .block) (j .way) (j .next) ws sender) }
 
 -- with the words to come from memory, only the requestor's way differs from its entry
-asked-same : (j : Job) (a : Role) (c : ℕ) (e : ℕ → Entry) (x : Mailbox) → j .source ≡ Memory → role j c ≡ a → InRole (atStage Asked j) c e x a → (w : ℕ) → (c ≡ j .requestor → w ≡ j .way → ⊥) → e w ≡ x .known w
+asked-same : (j : Job) (a : Role) (c : ℕ) (e : ℕ → Entry) (x : Mailbox) → j .source ≡ Memory → role j c ≡ a → InRole (atStage Asked j) c e x a
+    → (w : ℕ) → (c ≡ j .requestor → w ≡ j .way → ⊥) → e w ≡ x .known w
 asked-same j Requestor c e x m r ok w n = ok .1 w (n (requestor-is j c r))
 asked-same j (Giver p shown keeps writeback) c e x m r ok w n = absurd (no-owner j c p shown keeps writeback m r)
 asked-same j Bystander c e x m r ok w n = ok .0 w
 
-sent-other : (j : Job) (a : Role) (c : ℕ) (e : ℕ → Entry) (x : Mailbox) → j .source ≡ Memory → role j c ≡ a → (c ≡ j .requestor → ⊥) → InRole (atStage Asked j) c e x a → InRole (atStage Sent j) c e x a
+sent-other : (j : Job) (a : Role) (c : ℕ) (e : ℕ → Entry) (x : Mailbox) → j .source ≡ Memory → role j c ≡ a → (c ≡ j .requestor → ⊥)
+    → InRole (atStage Asked j) c e x a → InRole (atStage Sent j) c e x a
 sent-other j Requestor c e x m r n ok = absurd (n (requestor-is j c r))
 sent-other j (Giver p shown keeps writeback) c e x m r n ok = absurd (no-owner j c p shown keeps writeback m r)
 sent-other j Bystander c e x m r n ok = ok
@@ -84,7 +86,8 @@ no-dirty-copy g inv s j h m c w di at = go (cases-eq c r) (cases-eq w (j .way))
     r = j .requestor
     ok : GoodJob (g .geometry) s (g .entry s) j
     ok = rw h at (inv .jobs s)
-    src : (j .upgrade ≡ false) × ((c w : ℕ) → (c ≡ j .requestor → ⊥) → held (g .entry s c w .state) ≡ true → g .entry s c w .block ≡ j .block → g .entry s c w .state ≡ S)
+    src : (j .upgrade ≡ false) × ((c w : ℕ) → (c ≡ j .requestor → ⊥) → held (g .entry s c w .state) ≡ true → g .entry s c w .block ≡ j .block
+        → g .entry s c w .state ≡ S)
     src = rw m at (ok .source)
     hd : held (g .mailbox s c .known w .state) ≡ true
     hd = shows-held (g .mailbox s c .known w .state) (g .way s c w .state) (inv .agrees s c w .state) (dirty-held (g .way s c w .state) di)
@@ -98,7 +101,9 @@ no-dirty-copy g inv s j h m c w di at = go (cases-eq c r) (cases-eq w (j .way))
     en = held-entry (j .next) (j .block) (ok .gets)
     other : (c ≡ r → ⊥) → ⊥
     other n = let i = same (λ p _. n p) in
-        surely-clean-is (g .mailbox s c .known w .state) (g .way s c w .state) (inv .agrees s c w .state) (rw (sym (ap (λ z. z .state) i) ∙ src .1 c w n (rw i hd) (rw i bl)) refl) di
+        surely-clean-is
+          (g .mailbox s c .known w .state) (g .way s c w .state) (inv .agrees s c w .state) (rw (sym (ap (λ z. z .state) i)
+            ∙ src .1 c w n (rw i hd) (rw i bl)) refl) di
     own : c ≡ r → w ≡ j .way → ⊥
     own p i = false≢true (rw (rw (src .0) at (self .2 .0)) at (rw (p, i) at hd))
     beside : c ≡ r → (w ≡ j .way → ⊥) → ⊥
@@ -115,23 +120,33 @@ abbrev pub afterRead : Ghost → ℕ → Job → Words → Ghost
 afterRead g s j ws = record {
   geometry = g .geometry; entry = g .entry; way = g .way; waiter = g .waiter; progress = update (g .progress) s (Some (atStage Sent j));
   mailbox = update₂ (g .mailbox) s (j .requestor) (sentMailbox j (g .mailbox s (j .requestor)) ws Directory);
-  atMemory = update (g .atMemory) (j .block) (record { memory = g .atMemory (j .block) .memory; pending = Idle; latest = g .atMemory (j .block) .latest }) }
+  atMemory =
+      update (g .atMemory) (j .block) (record { memory = g .atMemory (j .block) .memory; pending = Idle; latest = g .atMemory (j .block) .latest }) }
 
-pub memory-read-keeps : (g : Ghost) → Invariant g → (s : ℕ) (j : Job) → g .progress s ≡ Some (atStage Asked j) → j .source ≡ Memory → Invariant (afterRead g s j (g .atMemory (j .block) .memory))
+pub memory-read-keeps : (g : Ghost) → Invariant g → (s : ℕ) (j : Job) → g .progress s ≡ Some (atStage Asked j) → j .source ≡ Memory
+    → Invariant (afterRead g s j (g .atMemory (j .block) .memory))
 memory-read-keeps g inv s j h m = record {
-  mailboxes = update-both (λ t z f. (c : ℕ) → GoodMailbox z c (g .entry t c) (f c)) (g .progress) (g .mailbox) s (Some now) (update (g .mailbox s) r y)
-      (update-each (λ c x. InRole now c (g .entry s c) x (role j c)) (g .mailbox s) r y (rw (requestor-role j) (sent-self (requestor-at g inv s j Asked h))) (λ c n. sent-other j (role j c) c (g .entry s c) (g .mailbox s c) m refl n (rw h at (inv .mailboxes s c)))) (λ t _. inv .mailboxes t);
+  mailboxes =
+      update-both (λ t z f. (c : ℕ) → GoodMailbox z c (g .entry t c) (f c)) (g .progress) (g .mailbox) s (Some now) (update (g .mailbox s) r y)
+      (update-each (λ c x. InRole now c (g .entry s c) x (role j c)) (g .mailbox s) r y
+        (rw (requestor-role j) (sent-self (requestor-at g inv s j Asked h)))
+        (λ c n. sent-other j (role j c) c (g .entry s c) (g .mailbox s c) m refl n (rw h at (inv .mailboxes s c))))
+      (λ t _. inv .mailboxes t);
   jobs = update-each (λ t z. GoodProgress (g .geometry) t (g .entry t) z) (g .progress) s (Some now) ok (λ t _. inv .jobs t);
   entriesApart = inv .entriesApart; entriesHome = inv .entriesHome; blanks = inv .blanks; asks = inv .asks; ranges = inv .ranges;
   copiesApart = copies-apart-after g inv s r y weak;
   copiesHome = copies-home-after g inv s r y weak;
   places = places-after g inv s r y weak;
   agrees = update₂-each (λ t a z. (w : ℕ) → Agrees (z .known w) (g .way t a w)) (g .mailbox) s r y (inv .agrees s r) (λ t a _. inv .agrees t a);
-  waits = update-each (λ t z. (c : ℕ) → GoodWait (g .geometry) t z c (g .waiter c)) (g .progress) s (Some now) (λ c. rw h at (inv .waits s c)) (λ t _. inv .waits t);
+  waits = update-each (λ t z. (c : ℕ) → GoodWait (g .geometry) t z c (g .waiter c)) (g .progress) s (Some now) (λ c. rw h at (inv .waits s c))
+      (λ t _. inv .waits t);
   pendings = pendings-after g inv s (j .block) now k (ok .here) refl (λ i n q. rw (q, h) at (inv .pendings i) .1 n);
   pendingRanges = pending-ranges-after g inv (j .block) k (inl refl);
   copies = λ t c w q. inv .copies t c w q ∙ sym (same (g .way t c w .block));
-  mails = update₂-each (λ t c z. GoodMail (update (g .atMemory) (j .block) k) (z .mail)) (g .mailbox) s r y (λ c b w st ws sender q. let e : g .atMemory (j .block) .memory ≡ ws = cc in let i : j .block ≡ b = cc in sym e ∙ clean ∙ ap (λ n. g .atMemory n .latest) i ∙ sym (same b)) (λ t c _ d b w st ws sender q. inv .mails t c d b w st ws sender q ∙ sym (same b));
+  mails = update₂-each (λ t c z. GoodMail (update (g .atMemory) (j .block) k) (z .mail)) (g .mailbox) s r y
+      (λ c b w st ws sender q. let e : g .atMemory (j .block) .memory ≡ ws = cc in let i : j .block ≡ b = cc in sym e ∙ clean
+        ∙ ap (λ n. g .atMemory n .latest) i ∙ sym (same b))
+      (λ t c _ d b w st ws sender q. inv .mails t c d b w st ws sender q ∙ sym (same b));
   newest = newest-after g inv s (j .block) now k (ok .here) (λ i _. no-dirty-sent i) (inl clean) }
   where
     r : ℕ
@@ -155,4 +170,6 @@ memory-read-keeps g inv s j h m = record {
     sent-self : InRole (atStage Asked j) r (g .entry s r) (g .mailbox s r) Requestor → InRole now r (g .entry s r) y Requestor
     sent-self p = (p .0, p .1, (p .2 .0, record { words = g .atMemory (j .block) .memory; sender = Directory; out = refl }))
     clean : g .atMemory (j .block) .memory ≡ g .atMemory (j .block) .latest
-    clean = elim (rw (ok .here) at (inv .newest (j .block))) [ inl q ↦ rw reads at q | inr q ↦ elim q [ inl u ↦ absurd (no-dirty-copy g inv s j h m (u .cache) (u .way) (u .state) (u .block)) | inr u ↦ absurd (no-dirty-sent (j .block) u) ] ]
+    clean = elim (rw (ok .here) at (inv .newest (j .block)))
+        [ inl q ↦ rw reads at q | inr q ↦ elim q
+          [ inl u ↦ absurd (no-dirty-copy g inv s j h m (u .cache) (u .way) (u .state) (u .block)) | inr u ↦ absurd (no-dirty-sent (j .block) u) ] ]

@@ -15,10 +15,12 @@ use Rattle.machine.proofs.Invariant.{readFor, PendingAt, GoodPending, PendingI
 use Rattle.machine.proofs.BlockFrames.{pending-ranges-after, latest-same}
 
 -- what is on its way for a block changes, and neither its newest words nor its latest
-pub block-keeps : (g : Ghost) → Invariant g → (b : ℕ) (k : BlockAtMemory) → k .latest ≡ g .atMemory b .latest → newestAt (k .pending) (k .memory) ≡ newestAt (g .atMemory b .pending) (g .atMemory b .memory)
+pub block-keeps : (g : Ghost) → Invariant g → (b : ℕ) (k : BlockAtMemory) → k .latest ≡ g .atMemory b .latest
+    → newestAt (k .pending) (k .memory) ≡ newestAt (g .atMemory b .pending) (g .atMemory b .memory)
     → GoodPending (g .progress (setOf (g .geometry) b)) b (k .pending) → PendingInRange (g .geometry) b (k .pending) → Invariant (setBlock g b k)
 block-keeps g inv b k cur new ok range = record {
-  mailboxes = inv .mailboxes; jobs = inv .jobs; entriesApart = inv .entriesApart; entriesHome = inv .entriesHome; blanks = inv .blanks; waits = inv .waits; asks = inv .asks; ranges = inv .ranges;
+  mailboxes = inv .mailboxes; jobs = inv .jobs; entriesApart = inv .entriesApart; entriesHome = inv .entriesHome; blanks = inv .blanks;
+      waits = inv .waits; asks = inv .asks; ranges = inv .ranges;
   copiesApart = inv .copiesApart; copiesHome = inv .copiesHome; places = inv .places; agrees = inv .agrees;
   pendings = update-each (λ i z. GoodPending (g .progress (setOf (g .geometry) i)) i (z .pending)) (g .atMemory) b k ok (λ i _. inv .pendings i);
   pendingRanges = pending-ranges-after g inv b k range;
@@ -50,7 +52,8 @@ waiting-good (Some h) b ws ok = go (h .stage) ok
 -- the directory passes the words of a Writeback on to the memory
 pub pass-on-keeps : (g : Ghost) → Invariant g → (b : ℕ) (ws : Words) → g .atMemory b .pending ≡ Coming ws
     → Invariant (setBlock g b (record { memory = g .atMemory b .memory; pending = Waiting ws; latest = g .atMemory b .latest }))
-pass-on-keeps g inv b ws p = block-keeps g inv b (record { memory = g .atMemory b .memory; pending = Waiting ws; latest = g .atMemory b .latest }) refl (rw p)
+pass-on-keeps g inv b ws p =
+    block-keeps g inv b (record { memory = g .atMemory b .memory; pending = Waiting ws; latest = g .atMemory b .latest }) refl (rw p)
     (waiting-good (g .progress (setOf (g .geometry) b)) b ws (rw p at (inv .pendings b))) (inr (coming-range (inv .pendingRanges b)))
   where
     coming-range : PendingInRange (g .geometry) b (g .atMemory b .pending) → b < g .geometry .blocks

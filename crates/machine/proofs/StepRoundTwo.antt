@@ -37,7 +37,8 @@ asked-at j (Giver p shown keeps writeback) c e x m ok = (ok .0, ok .1, (ok .2 .0
 asked-at j Bystander c e x m ok = elim ok [ inl q ↦ (q .0, refl) | inr q ↦ grind arith ]
 
 -- nobody gets data yet
-no-data-asked : (j : Job) (c : ℕ) (a : Role) (d b w : ℕ) (st : State) (ws : Words) (sender : Party) → askedMail j c a ≡ To (SetTagData d b w st ws sender) → ⊥
+no-data-asked : (j : Job) (c : ℕ) (a : Role) (d b w : ℕ) (st : State) (ws : Words) (sender : Party)
+    → askedMail j c a ≡ To (SetTagData d b w st ws sender) → ⊥
 no-data-asked j c Requestor d b w st ws sender e = go (j .source) e
   where
     go : (r : Source) → wakeupMail j r ≡ To (SetTagData d b w st ws sender) → ⊥
@@ -61,21 +62,26 @@ afterBegin g s j = record {
       (record { memory = g .atMemory (j .block) .memory; pending = readFor j (j .source); latest = g .atMemory (j .block) .latest }) }
 
 -- once all answers of round one are in
-pub round-two-keeps : (g : Ghost) → Invariant g → (s : ℕ) (j : Job) → g .progress s ≡ Some (atStage Clearing j) → ((c : ℕ) → g .mailbox s c .mail ≡ Nothing) → Invariant (afterBegin g s j)
+pub round-two-keeps : (g : Ghost) → Invariant g → (s : ℕ) (j : Job) → g .progress s ≡ Some (atStage Clearing j)
+    → ((c : ℕ) → g .mailbox s c .mail ≡ Nothing) → Invariant (afterBegin g s j)
 round-two-keeps g inv s j h quiet = record {
   mailboxes = update-both (λ t z f. (c : ℕ) → GoodMailbox z c (g .entry t c) (f c)) (g .progress) (g .mailbox) s (Some now) f
       (λ c. asked-at j (role j c) c (g .entry s c) (g .mailbox s c) (quiet c) (rw h at (inv .mailboxes s c))) (λ t _. inv .mailboxes t);
   jobs = update-each (λ t z. GoodProgress (g .geometry) t (g .entry t) z) (g .progress) s (Some now) ok (λ t _. inv .jobs t);
   entriesApart = inv .entriesApart; entriesHome = inv .entriesHome; blanks = inv .blanks; asks = inv .asks; ranges = inv .ranges;
   copiesApart = update-each (λ t z. AllApart (λ c. z c .known)) (g .mailbox) s f (inv .copiesApart s) (λ t _. inv .copiesApart t);
-  copiesHome = update-each (λ t z. (c w : ℕ) → AtHome (g .geometry) t c w (z c .known w)) (g .mailbox) s f (inv .copiesHome s) (λ t _. inv .copiesHome t);
+  copiesHome =
+      update-each (λ t z. (c w : ℕ) → AtHome (g .geometry) t c w (z c .known w)) (g .mailbox) s f (inv .copiesHome s) (λ t _. inv .copiesHome t);
   places = update-each (λ t z. (c : ℕ) → GoodPlace (z c) (g .waiter c)) (g .mailbox) s f (inv .places s) (λ t _. inv .places t);
   agrees = update-each (λ t z. (c w : ℕ) → Agrees (z c .known w) (g .way t c w)) (g .mailbox) s f (inv .agrees s) (λ t _. inv .agrees t);
-  waits = update-each (λ t z. (c : ℕ) → GoodWait (g .geometry) t z c (g .waiter c)) (g .progress) s (Some now) (λ c. rw h at (inv .waits s c)) (λ t _. inv .waits t);
-  pendings = pendings-after g inv s (j .block) now k (ok .here) ((λ _. refl), λ n. absurd (n refl)) (λ i n q. ((λ p. absurd (n p)), λ _. rw (q, h) at (inv .pendings i) .0));
+  waits = update-each (λ t z. (c : ℕ) → GoodWait (g .geometry) t z c (g .waiter c)) (g .progress) s (Some now) (λ c. rw h at (inv .waits s c))
+      (λ t _. inv .waits t);
+  pendings = pendings-after g inv s (j .block) now k (ok .here) ((λ _. refl), λ n. absurd (n refl))
+      (λ i n q. ((λ p. absurd (n p)), λ _. rw (q, h) at (inv .pendings i) .0));
   pendingRanges = pending-ranges-after g inv (j .block) k (inr (job-range g inv s j Clearing h .2));
   copies = λ t c w q. inv .copies t c w q ∙ sym (same (g .way t c w .block));
-  mails = update-each (λ t z. (c : ℕ) → GoodMail (update (g .atMemory) (j .block) k) (z c .mail)) (g .mailbox) s f (λ c d b w st ws sender q. absurd (no-data-asked j c (role j c) d b w st ws sender q))
+  mails = update-each (λ t z. (c : ℕ) → GoodMail (update (g .atMemory) (j .block) k) (z c .mail)) (g .mailbox) s f
+      (λ c d b w st ws sender q. absurd (no-data-asked j c (role j c) d b w st ws sender q))
       (λ t _ c d b w st ws sender q. inv .mails t c d b w st ws sender q ∙ sym (same b));
   newest = newest-after g inv s (j .block) now k (ok .here) (λ i _. no-dirty-sent i) kept-newest }
   where
@@ -94,5 +100,6 @@ round-two-keeps g inv s j h quiet = record {
     idle : g .atMemory (j .block) .pending ≡ Idle
     idle = rw (ok .here, h) at (inv .pendings (j .block)) .1 refl
     kept-newest : Newest (g .way s) (Some now) (j .block) k
-    kept-newest = elim (newest-progress (g .way s) (g .progress s) (Some now) (j .block) (g .atMemory (j .block)) (no-dirty-sent (j .block)) (rw (ok .here) at (inv .newest (j .block))))
+    kept-newest = elim (newest-progress (g .way s) (g .progress s) (Some now)
+        (j .block) (g .atMemory (j .block)) (no-dirty-sent (j .block)) (rw (ok .here) at (inv .newest (j .block))))
         [ inl q ↦ inl (newest-read j (j .source) (g .atMemory (j .block) .memory) ∙ (rw idle at q)) | inr q ↦ inr q ]

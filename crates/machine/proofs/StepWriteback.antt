@@ -41,8 +41,10 @@ pub record WritebackFacts (h : Option Progress) (c : ℕ) (e : ℕ → Entry) (x
 
 writeback-at : (j : Job) (s : Stage) (a : Role) (c : ℕ) (e : ℕ → Entry) (x : Mailbox) (d b p : ℕ) → x .mail ≡ To (SetStateWriteback d b p)
     → role j c ≡ a → InRole (atStage s j) c e x a → WritebackFacts (Some (atStage s j)) c e x b p
-writeback-at j Evicting Requestor c e x d b p m i ok = let l = ok .2 in let q : l .block ≡ b = cc (m, l .out) in let pw : p ≡ j .way = cc (m, l .out) in
-    record { job = j; progress = refl; isRequestor = i; way = pw; other = rw q at (l .other); block = rw pw (l .shown ∙ q); heldThere = rw pw (may-be-dirty-held (x .known (j .way) .state) (l .state)); noUpgrade = l .noUpgrade; entry = ok .0; rest = ok .1 }
+writeback-at j Evicting Requestor c e x d b p m i ok = let l = ok .2 in let q : l .block ≡ b = cc (m, l .out) in
+    let pw : p ≡ j .way = cc (m, l .out) in
+    record { job = j; progress = refl; isRequestor = i; way = pw; other = rw q at (l .other); block = rw pw (l .shown ∙ q);
+      heldThere = rw pw (may-be-dirty-held (x .known (j .way) .state) (l .state)); noUpgrade = l .noUpgrade; entry = ok .0; rest = ok .1 }
 writeback-at j Clearing Requestor c e x d b p m i ok = grind arith
 writeback-at j Asked Requestor c e x d b p m i ok = grind arith
 writeback-at j Sent Requestor c e x d b p m i ok = grind arith
@@ -58,7 +60,8 @@ writeback-at j Asked Bystander c e x d b p m i ok = grind arith
 writeback-at j Sent Bystander c e x d b p m i ok = grind arith
 writeback-at j Filled Bystander c e x d b p m i ok = grind arith
 
-pub writeback-facts : (h : Option Progress) (c : ℕ) (e : ℕ → Entry) (x : Mailbox) (d b p : ℕ) → x .mail ≡ To (SetStateWriteback d b p) → GoodMailbox h c e x → WritebackFacts h c e x b p
+pub writeback-facts : (h : Option Progress) (c : ℕ) (e : ℕ → Entry) (x : Mailbox) (d b p : ℕ) → x .mail ≡ To (SetStateWriteback d b p)
+    → GoodMailbox h c e x → WritebackFacts h c e x b p
 writeback-facts None c e x d b p m ok = grind arith
 writeback-facts (Some h) c e x d b p m ok = writeback-at (h .job) (h .stage) (role (h .job) c) c e x d b p m refl ok
 
@@ -68,7 +71,8 @@ comingIf true ws = Coming ws
 comingIf false ws = Idle
 
 -- bystanders and owners do not tell the two parts of round one apart
-clearing-other : (j : Job) (a : Role) (c : ℕ) (e : ℕ → Entry) (x : Mailbox) → role j c ≡ a → (c ≡ j .requestor → ⊥) → InRole (atStage Evicting j) c e x a → InRole (atStage Clearing j) c e x a
+clearing-other : (j : Job) (a : Role) (c : ℕ) (e : ℕ → Entry) (x : Mailbox) → role j c ≡ a → (c ≡ j .requestor → ⊥)
+    → InRole (atStage Evicting j) c e x a → InRole (atStage Clearing j) c e x a
 clearing-other j Requestor c e x r n ok = absurd (n (requestor-is j c r))
 clearing-other j (Giver p shown keeps writeback) c e x r n ok = ok
 clearing-other j Bystander c e x r n ok = ok
@@ -88,22 +92,30 @@ afterWriteback g s j b p r = record {
 
 -- with what the facts above give
 pub writeback-keeps : (g : Ghost) → Invariant g → (s b : ℕ) (r : Response) (j : Job) → g .progress s ≡ Some (atStage Evicting j)
-    → (b ≡ j .block → ⊥) → g .mailbox s (j .requestor) .known (j .way) .block ≡ b → held (g .mailbox s (j .requestor) .known (j .way) .state) ≡ true → j .upgrade ≡ false → Invariant (afterWriteback g s j b (j .way) r)
+    → (b ≡ j .block → ⊥) → g .mailbox s (j .requestor) .known (j .way) .block ≡ b → held (g .mailbox s (j .requestor) .known (j .way) .state) ≡ true
+    → j .upgrade ≡ false → Invariant (afterWriteback g s j b (j .way) r)
 writeback-keeps g inv s b r j h other bl hd up = record {
-  mailboxes = update-both (λ t z f. (c : ℕ) → GoodMailbox z c (g .entry t c) (f c)) (g .progress) (g .mailbox) s (Some now) (update (g .mailbox s) c y)
-      (update-each (λ d z. InRole now d (g .entry s d) z (role j d)) (g .mailbox s) c y (rw (requestor-role j) (self (requestor-at g inv s j Evicting h)))
+  mailboxes =
+      update-both (λ t z f. (c : ℕ) → GoodMailbox z c (g .entry t c) (f c)) (g .progress) (g .mailbox) s (Some now) (update (g .mailbox s) c y)
+      (update-each (λ d z. InRole now d (g .entry s d) z (role j d)) (g .mailbox s) c y
+        (rw (requestor-role j) (self (requestor-at g inv s j Evicting h)))
         (λ d n. clearing-other j (role j d) d (g .entry s d) (g .mailbox s d) refl n (rw h at (inv .mailboxes s d)))) (λ t _. inv .mailboxes t);
   jobs = update-each (λ t z. GoodProgress (g .geometry) t (g .entry t) z) (g .progress) s (Some now) (rw h at (inv .jobs s)) (λ t _. inv .jobs t);
   entriesApart = inv .entriesApart; entriesHome = inv .entriesHome; blanks = inv .blanks; asks = inv .asks; ranges = inv .ranges;
   copiesApart = copies-apart-after g inv s c y weak;
   copiesHome = copies-home-after g inv s c y weak;
   places = places-after g inv s c y weak;
-  agrees = agrees-after g inv s c p noWay y (update-both (λ w o v. Agrees o v) (x .known) (g .way s c) p noEntry noWay (record { state = refl; block = refl }) (λ w _. inv .agrees s c w));
-  waits = update-each (λ t z. (d : ℕ) → GoodWait (g .geometry) t z d (g .waiter d)) (g .progress) s (Some now) (λ d. rw h at (inv .waits s d)) (λ t _. inv .waits t);
-  pendings = pendings-after g inv s b now k home (coming-no-read (dirty (g .way s c p .state)) (g .way s c p .words), λ q. absurd (other q)) (λ i _ q. let z = rw (q, h) at (inv .pendings i) in (rw z refl, λ _. z));
+  agrees = agrees-after g inv s c p noWay y
+      (update-both (λ w o v. Agrees o v) (x .known) (g .way s c) p noEntry noWay (record { state = refl; block = refl }) (λ w _. inv .agrees s c w));
+  waits = update-each (λ t z. (d : ℕ) → GoodWait (g .geometry) t z d (g .waiter d)) (g .progress) s (Some now) (λ d. rw h at (inv .waits s d))
+      (λ t _. inv .waits t);
+  pendings = pendings-after g inv s b now k home (coming-no-read (dirty (g .way s c p .state)) (g .way s c p .words), λ q. absurd (other q))
+      (λ i _ q. let z = rw (q, h) at (inv .pendings i) in (rw z refl, λ _. z));
   pendingRanges = pending-ranges-after g inv b k (inr in-range);
-  copies = copies-after g (update (g .atMemory) b k) s c p noWay (λ q. absurd (false≢true q)) (λ t d w _ q. inv .copies t d w q ∙ sym (same (g .way t d w .block)));
-  mails = update₂-each (λ t d z. GoodMail (update (g .atMemory) b k) (z .mail)) (g .mailbox) s c y (λ _ _ _ _ _ _ q. absurd (no-answer q)) (λ t d _ a i w st ws sender q. inv .mails t d a i w st ws sender q ∙ sym (same i));
+  copies = copies-after g (update (g .atMemory) b k) s c p noWay (λ q. absurd (false≢true q))
+      (λ t d w _ q. inv .copies t d w q ∙ sym (same (g .way t d w .block)));
+  mails = update₂-each (λ t d z. GoodMail (update (g .atMemory) b k) (z .mail)) (g .mailbox) s c y (λ _ _ _ _ _ _ q. absurd (no-answer q))
+      (λ t d _ a i w st ws sender q. inv .mails t d a i w st ws sender q ∙ sym (same i));
   newest = newest-way-after g inv s b now k home (λ i _. no-dirty-sent i) c p noWay (λ _. at) (coming-newest (dirty (g .way s c p .state)) refl) }
   where
     c : ℕ
@@ -117,7 +129,8 @@ writeback-keeps g inv s b r j h other bl hd up = record {
     now : Progress
     now = atStage Clearing j
     k : BlockAtMemory
-    k = record { memory = g .atMemory b .memory; pending = comingIf (dirty (g .way s c p .state)) (g .way s c p .words); latest = g .atMemory b .latest }
+    k = record { memory = g .atMemory b .memory; pending = comingIf (dirty (g .way s c p .state)) (g .way s c p .words);
+        latest = g .atMemory b .latest }
     home : setOf (g .geometry) b ≡ s
     home = ap (setOf (g .geometry)) (sym bl) ∙ inv .copiesHome s c p hd .0
     in-range : b < g .geometry .blocks
@@ -136,7 +149,9 @@ writeback-keeps g inv s b r j h other bl hd up = record {
     moved i q = newest-progress (g .way s) (g .progress s) (Some now) i (g .atMemory i) (no-dirty-sent i) (rw q at (inv .newest i))
     idle : g .atMemory b .pending ≡ Idle
     idle = rw (home, h) at (inv .pendings b)
-    coming-newest : (t : Bool) → dirty (g .way s c p .state) ≡ t → Newest (update₃ (g .way) s c p noWay s) (Some now) b (record { memory = g .atMemory b .memory; pending = comingIf t (g .way s c p .words); latest = g .atMemory b .latest })
+    coming-newest : (t : Bool) → dirty (g .way s c p .state) ≡ t → Newest (update₃ (g .way) s c p noWay s)
+        (Some now) b (record { memory = g .atMemory b .memory; pending = comingIf t (g .way s c p .words); latest = g .atMemory b .latest })
     coming-newest true i = inl (inv .copies s c p (dirty-held (g .way s c p .state) i) ∙ ap (λ n. g .atMemory n .latest) at)
-    coming-newest false i = newest-way (g .way) s c p noWay s (Some now) b (record { memory = g .atMemory b .memory; pending = Idle; latest = g .atMemory b .latest })
+    coming-newest false i =
+        newest-way (g .way) s c p noWay s (Some now) b (record { memory = g .atMemory b .memory; pending = Idle; latest = g .atMemory b .latest })
         (elim (moved b home) [ inl q ↦ inl (rw idle at q) | inr q ↦ inr q ]) (λ _ z _. absurd (false≢true (sym i ∙ z)))

@@ -21,7 +21,8 @@ update₃ f i j k v = update f i (update₂ (f i) j k v)
 
 -- ---- laws: what holds of the new value at the key, and of the old values elsewhere, holds everywhere
 
-pub update-each : {A : Type 0} (P : ℕ → A → Type 0) (f : ℕ → A) (i : ℕ) (v : A) → P i v → ((j : ℕ) → (j ≡ i → ⊥) → P j (f j)) → (j : ℕ) → P j (update f i v j)
+pub update-each : {A : Type 0} (P : ℕ → A → Type 0) (f : ℕ → A) (i : ℕ) (v : A) → P i v → ((j : ℕ) → (j ≡ i → ⊥) → P j (f j)) → (j : ℕ)
+    → P j (update f i v j)
 update-each {A} P f i v here there j = go (eqb j i) refl
   where
     go : (t : Bool) → eqb j i ≡ t → P j (cond t v (f j))
