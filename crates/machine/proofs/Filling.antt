@@ -26,10 +26,11 @@ use Rattle.machine.proofs.Updates.{update, update₂, update₃, update-each, 
 use Rattle.machine.proofs.Ghost.{Stage, Sent, Filled, Progress, atStage, To, From, Mailbox, Waiter, BlockAtMemory, Ghost}
 use Rattle.machine.proofs.Mailboxes.{Requestor, role, readOnly, BeforeFill, InRole, GoodMailbox}
 use Rattle.machine.proofs.Invariant.{AllApart, AtHome, GoodJob, GoodProgress, unfilled, serves, Served, Asks, GoodWait, InRange, GoodPlace, isReading, GoodPending, GoodMail, DirtyOnTheWay, Newest, Invariant}
-use Rattle.machine.proofs.StateFacts.{shows-held, writable-alone, held-entry, agrees-in, way-is}
+use Rattle.machine.proofs.StateFacts.{writable-alone, held-entry, agrees-in, way-is}
 use Rattle.machine.proofs.Frames.{agrees-after, copies-after, no-answer, newest-way}
 use Rattle.machine.proofs.BlockFrames.{newest-way-after}
 use Rattle.machine.proofs.MailFacts.{DataFacts, data-facts, requestor-is, requestor-role, filled-at}
+use Rattle.machine.proofs.Promises.{known-held}
 
 -- the requestor goes by its final entry, and answers Coherence Ack
 abbrev pub filledMailbox : Job → Mailbox → Mailbox
@@ -41,8 +42,8 @@ afterFill g s j ws = record {
   geometry = g .geometry; entry = g .entry; way = update₃ (g .way) s (j .requestor) (j .way) (wayIn (j .next) (j .block) ws);
   mailbox = update₂ (g .mailbox) s (j .requestor) (filledMailbox j (g .mailbox s (j .requestor)));
   progress = update (g .progress) s (Some (atStage Filled j)); waiter = update (g .waiter) (j .requestor) (record { kept = None; request = None });
-  atMemory =
-      update (g .atMemory) (j .block) (record { memory = g .atMemory (j .block) .memory; pending = g .atMemory (j .block) .pending; latest = ws }) }
+  atMemory = update (g .atMemory) (j .block)
+      (record { memory = g .atMemory (j .block) .memory; pending = g .atMemory (j .block) .pending; latest = ws }) }
 
 -- entries that are the same are as far apart
 same-holds : (f h : ℕ → ℕ → Entry) → ((c w : ℕ) → f c w ≡ h c w) → AllApart f → AllApart h
@@ -133,7 +134,7 @@ module _ (g : Ghost) (inv : Invariant g) (s : ℕ) (j : Job) (st : Stage) (ws : 
               (rw (self .0, en .1, e) (sym bl)) .1)
       clash : (t c w : ℕ) → (t ≡ s → c ≡ r → w ≡ j .way → ⊥) → held (g .way t c w .state) ≡ true → g .way t c w .block ≡ j .block → j .next ≡ M → ⊥
       clash t c w n q e m =
-          let hd = shows-held (g .mailbox t c .known w .state) (g .way t c w .state) (inv .agrees t c w .state) q in
+          let hd = known-held g inv t c w q in
           let bl : g .mailbox t c .known w .block ≡ j .block = inv .agrees t c w .block ∙ e in
           let ts : t ≡ s = sym (inv .copiesHome t c w hd .0) ∙ ap (setOf (g .geometry)) bl ∙ ok .here in
           clash-in c w (n ts) (rw ts at hd) (rw ts at bl) m

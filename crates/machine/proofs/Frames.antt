@@ -111,12 +111,11 @@ newest-way f s c p v t h b k fr mine = elim fr [ inl q ↦ inl q | inr q ↦ eli
     elim (cases t (u .cache) (u .way) (u .state) (u .block))
       [ inl z ↦ inr (inl (record { cache = u .cache; way = u .way; state = z .0; block = z .1 })) | inr z ↦ mine (z .0) (z .1) (z .2) ] ] ]
   where
-    cases : (u d w : ℕ) → dirty (f u d w .state) ≡ true → f u d w .block ≡ b
-        → ((dirty (update₃ f s c p v u d w .state) ≡ true) × (update₃ f s c p v u d w .block ≡ b)) ⊎ ((u ≡ s) × (dirty (f s c p .state) ≡ true) × (f s c p .block ≡ b))
-    cases = update₂-each (λ u d z. (w : ℕ) → dirty (f u d w .state) ≡ true → f u d w .block ≡ b
-        → ((dirty (z w .state) ≡ true) × (z w .block ≡ b)) ⊎ ((u ≡ s) × (dirty (f s c p .state) ≡ true) × (f s c p .block ≡ b)))
-        f s c (update (f s c) p v)
-        (update-each (λ w z. dirty (f s c w .state) ≡ true → f s c w .block ≡ b
-          → ((dirty (z .state) ≡ true) × (z .block ≡ b)) ⊎ ((s ≡ s) × (dirty (f s c p .state) ≡ true) × (f s c p .block ≡ b)))
-          (f s c) p v (λ x y. inr (refl, x, y)) (λ w _ x y. inl (x, y)))
+    -- the dirty copy of the block is another one, or it was this way
+    StillOrThis : ℕ → Way → Type 0
+    StillOrThis u z = ((dirty (z .state) ≡ true) × (z .block ≡ b)) ⊎ ((u ≡ s) × (dirty (f s c p .state) ≡ true) × (f s c p .block ≡ b))
+    cases : (u d w : ℕ) → dirty (f u d w .state) ≡ true → f u d w .block ≡ b → StillOrThis u (update₃ f s c p v u d w)
+    cases = update₂-each (λ u d z. (w : ℕ) → dirty (f u d w .state) ≡ true → f u d w .block ≡ b → StillOrThis u (z w)) f s c (update (f s c) p v)
+        (update-each (λ w z. dirty (f s c w .state) ≡ true → f s c w .block ≡ b → StillOrThis s z) (f s c) p v
+          (λ x y. inr (refl, x, y)) (λ w _ x y. inl (x, y)))
         (λ u d _ w x y. inl (x, y))

@@ -16,6 +16,14 @@ use Rattle.machine.proofs.Invariant.{Invariant}
 use Rattle.machine.proofs.StateFacts.{shows-held, shows-writable, writable-held, writable-alone}
 use Rattle.machine.proofs.Frames.{none-some}
 
+-- what a cache holds, it goes by; and so with what it may store into
+pub known-held : (g : Ghost) → Invariant g → (s c w : ℕ) → held (g .way s c w .state) ≡ true → held (g .mailbox s c .known w .state) ≡ true
+known-held g inv s c w h = shows-held (g .mailbox s c .known w .state) (g .way s c w .state) (inv .agrees s c w .state) h
+
+pub known-writable : (g : Ghost) → Invariant g → (s c w : ℕ) → writable (g .way s c w .state) ≡ true
+    → writable (g .mailbox s c .known w .state) ≡ true
+known-writable g inv s c w h = shows-writable (g .mailbox s c .known w .state) (g .way s c w .state) (inv .agrees s c w .state) h
+
 -- a copy that a store hits is the only one
 pub sole-place : (g : Ghost) → Invariant g → (s c w t d x : ℕ) → writable (g .way s c w .state) ≡ true → held (g .way t d x .state) ≡ true
     → g .way s c w .block ≡ g .way t d x .block → (t ≡ s) × ((c ≡ d → w ≡ x → ⊥) → ⊥)
@@ -23,14 +31,14 @@ sole-place g inv s c w t d x h k e = (sets, clash)
   where
     open Invariant inv using (agrees, copiesHome, copiesApart)
     wr : writable (g .mailbox s c .known w .state) ≡ true
-    wr = shows-writable (g .mailbox s c .known w .state) (g .way s c w .state) (agrees s c w .state) h
+    wr = known-writable g inv s c w h
     hd : held (g .mailbox t d .known x .state) ≡ true
-    hd = shows-held (g .mailbox t d .known x .state) (g .way t d x .state) (agrees t d x .state) k
+    hd = known-held g inv t d x k
     same : g .mailbox s c .known w .block ≡ g .mailbox t d .known x .block
     same = agrees s c w .block ∙ e ∙ sym (agrees t d x .block)
     sets : t ≡ s
-    sets =
-        sym (copiesHome t d x hd .0) ∙ ap (setOf (g .geometry)) (sym same) ∙ copiesHome s c w (writable-held (g .mailbox s c .known w .state) wr) .0
+    sets = sym (copiesHome t d x hd .0) ∙ ap (setOf (g .geometry)) (sym same)
+        ∙ copiesHome s c w (writable-held (g .mailbox s c .known w .state) wr) .0
     clash : (c ≡ d → w ≡ x → ⊥) → ⊥
     clash n = writable-alone (g .mailbox s c .known w .state) (g .mailbox s d .known x .state) wr
         (copiesApart s c w d x n (writable-held (g .mailbox s c .known w .state) wr) (rw sets at hd) (rw sets at same) .1)

@@ -25,10 +25,11 @@ use Rattle.machine.proofs.Updates.{update, update₂, update-each, update₂-e
 use Rattle.machine.proofs.Ghost.{Stage, Evicting, Clearing, Asked, Sent, Filled, Progress, atStage, To, Mailbox, Idle, Reading, BlockAtMemory, Ghost}
 use Rattle.machine.proofs.Mailboxes.{Role, Requestor, Giver, Bystander, role, InRole, GoodMailbox}
 use Rattle.machine.proofs.Invariant.{GoodJob, GoodProgress, GoodWait, readFor, PendingAt, GoodPending, GoodMail, DirtyOnTheWay, Invariant}
-use Rattle.machine.proofs.StateFacts.{shows-held, surely-clean-is, dirty-held, held-entry}
+use Rattle.machine.proofs.StateFacts.{surely-clean-is, dirty-held, held-entry}
 use Rattle.machine.proofs.Frames.{Weaker, weaker-same, copies-apart-after, copies-home-after, places-after, not-sent}
 use Rattle.machine.proofs.BlockFrames.{pendings-after, newest-after, pending-ranges-after, latest-same}
 use Rattle.machine.proofs.MailFacts.{requestor-is, requestor-role, requestor-at}
+use Rattle.machine.proofs.Promises.{known-held}
 
 -- what a memory read on its way tells of the set
 pub record ReadFacts (h : Option Progress) (b c w : ℕ) (st : State) : Type 0 where
@@ -71,6 +72,7 @@ asked-same j Requestor c e x m r ok w n = ok .1 w (n (requestor-is j c r))
 asked-same j (Giver p shown keeps writeback) c e x m r ok w n = absurd (no-owner j c p shown keeps writeback m r)
 asked-same j Bystander c e x m r ok w n = ok .0 w
 
+-- the other caches do not tell Asked from Sent
 sent-other : (j : Job) (a : Role) (c : ℕ) (e : ℕ → Entry) (x : Mailbox) → j .source ≡ Memory → role j c ≡ a → (c ≡ j .requestor → ⊥)
     → InRole (atStage Asked j) c e x a → InRole (atStage Sent j) c e x a
 sent-other j Requestor c e x m r n ok = absurd (n (requestor-is j c r))
@@ -90,7 +92,7 @@ no-dirty-copy g inv s j h m c w di at = go (cases-eq c r) (cases-eq w (j .way))
         → g .entry s c w .state ≡ S)
     src = rw m at (ok .source)
     hd : held (g .mailbox s c .known w .state) ≡ true
-    hd = shows-held (g .mailbox s c .known w .state) (g .way s c w .state) (inv .agrees s c w .state) (dirty-held (g .way s c w .state) di)
+    hd = known-held g inv s c w (dirty-held (g .way s c w .state) di)
     bl : g .mailbox s c .known w .block ≡ j .block
     bl = inv .agrees s c w .block ∙ at
     same : (c ≡ r → w ≡ j .way → ⊥) → g .entry s c w ≡ g .mailbox s c .known w
@@ -100,10 +102,10 @@ no-dirty-copy g inv s j h m c w di at = go (cases-eq c r) (cases-eq w (j .way))
     en : (entryIn (j .next) (j .block) .state ≡ j .next) × (entryIn (j .next) (j .block) .block ≡ j .block)
     en = held-entry (j .next) (j .block) (ok .gets)
     other : (c ≡ r → ⊥) → ⊥
-    other n = let i = same (λ p _. n p) in
-        surely-clean-is
-          (g .mailbox s c .known w .state) (g .way s c w .state) (inv .agrees s c w .state) (rw (sym (ap (λ z. z .state) i)
-            ∙ src .1 c w n (rw i hd) (rw i bl)) refl) di
+    other n =
+        let i = same (λ p _. n p) in
+        let shared : g .mailbox s c .known w .state ≡ S = sym (ap (λ z. z .state) i) ∙ src .1 c w n (rw i hd) (rw i bl) in
+        surely-clean-is (g .mailbox s c .known w .state) (g .way s c w .state) (inv .agrees s c w .state) (rw shared refl) di
     own : c ≡ r → w ≡ j .way → ⊥
     own p i = false≢true (rw (rw (src .0) at (self .2 .0)) at (rw (p, i) at hd))
     beside : c ≡ r → (w ≡ j .way → ⊥) → ⊥
@@ -120,14 +122,14 @@ abbrev pub afterRead : Ghost → ℕ → Job → Words → Ghost
 afterRead g s j ws = record {
   geometry = g .geometry; entry = g .entry; way = g .way; waiter = g .waiter; progress = update (g .progress) s (Some (atStage Sent j));
   mailbox = update₂ (g .mailbox) s (j .requestor) (sentMailbox j (g .mailbox s (j .requestor)) ws Directory);
-  atMemory =
-      update (g .atMemory) (j .block) (record { memory = g .atMemory (j .block) .memory; pending = Idle; latest = g .atMemory (j .block) .latest }) }
+  atMemory = update (g .atMemory) (j .block)
+      (record { memory = g .atMemory (j .block) .memory; pending = Idle; latest = g .atMemory (j .block) .latest }) }
 
 pub memory-read-keeps : (g : Ghost) → Invariant g → (s : ℕ) (j : Job) → g .progress s ≡ Some (atStage Asked j) → j .source ≡ Memory
     → Invariant (afterRead g s j (g .atMemory (j .block) .memory))
 memory-read-keeps g inv s j h m = record {
-  mailboxes =
-      update-both (λ t z f. (c : ℕ) → GoodMailbox z c (g .entry t c) (f c)) (g .progress) (g .mailbox) s (Some now) (update (g .mailbox s) r y)
+  mailboxes = update-both (λ t z f. (c : ℕ) → GoodMailbox z c (g .entry t c) (f c)) (g .progress) (g .mailbox) s (Some now)
+      (update (g .mailbox s) r y)
       (update-each (λ c x. InRole now c (g .entry s c) x (role j c)) (g .mailbox s) r y
         (rw (requestor-role j) (sent-self (requestor-at g inv s j Asked h)))
         (λ c n. sent-other j (role j c) c (g .entry s c) (g .mailbox s c) m refl n (rw h at (inv .mailboxes s c))))

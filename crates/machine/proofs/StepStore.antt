@@ -21,11 +21,11 @@ use Rattle.machine.proofs.Updates.{update, update₃, update-each, update₂-e
 use Rattle.machine.proofs.Ghost.{To, BlockAtMemory, Ghost, setWay, setBlock}
 use Rattle.machine.proofs.Mailboxes.{role, readOnly, BeforeFill}
 use Rattle.machine.proofs.Invariant.{GoodJob, GoodPending, Newest, Invariant}
-use Rattle.machine.proofs.StateFacts.{shows-writable, shows-store, writable-held, writable-alone, held-entry}
+use Rattle.machine.proofs.StateFacts.{shows-store, writable-held, writable-alone, held-entry}
 use Rattle.machine.proofs.Frames.{dirty-after, copies-after}
 use Rattle.machine.proofs.BlockFrames.{pending-ranges-after}
 use Rattle.machine.proofs.MailFacts.{DataFacts, data-facts, sent-at, requestor-is}
-use Rattle.machine.proofs.Promises.{sole-place}
+use Rattle.machine.proofs.Promises.{known-writable, sole-place}
 
 -- before the fill the requestor has no copy that a store hits
 pub before-not-writable : (j : Job) (e : Entry) → BeforeFill j e → writable (e .state) ≡ true → ⊥
@@ -55,7 +55,7 @@ no-data g inv s c w h t a d k x st ws sender m e = go (cases-eq c a) (cases-eq w
     ok : GoodJob (g .geometry) t (g .entry t) j
     ok = rw (q .progress) at (inv .jobs t)
     wr₀ : writable (g .mailbox s c .known w .state) ≡ true
-    wr₀ = shows-writable (g .mailbox s c .known w .state) (g .way s c w .state) (inv .agrees s c w .state) h
+    wr₀ = known-writable g inv s c w h
     bl₀ : g .mailbox s c .known w .block ≡ j .block
     bl₀ = inv .agrees s c w .block ∙ sym e ∙ q .block
     sets : s ≡ t
@@ -67,11 +67,12 @@ no-data g inv s c w h t a d k x st ws sender m e = go (cases-eq c a) (cases-eq w
     en : (entryIn (j .next) (j .block) .state ≡ j .next) × (entryIn (j .next) (j .block) .block ≡ j .block)
     en = held-entry (j .next) (j .block) (ok .gets)
     apart : (c ≡ a → w ≡ j .way → ⊥) → ⊥
-    apart n = let same : g .entry t c w ≡ g .mailbox t c .known w = sent-at j (role j c) c (g .entry t c) (g .mailbox t c)
-        (rw (q .progress) at (inv .mailboxes t c)) w (λ i. n (requestor-is j c i ∙ sym (requestor-is j a (q .isRequestor)))) in
-        writable-alone (g .mailbox t c .known w .state) (g .entry t a (j .way) .state) wr
-          (rw same at (inv .entriesApart t c w a (j .way) n (rw same (writable-held (g .mailbox t c .known w .state) wr))
-            (rw (q .entry, en .0) (ok .gets)) (rw (same, q .entry, en .1) bl) .1))
+    apart n =
+        let same : g .entry t c w ≡ g .mailbox t c .known w = sent-at j (role j c) c (g .entry t c) (g .mailbox t c)
+              (rw (q .progress) at (inv .mailboxes t c)) w (λ i. n (requestor-is j c i ∙ sym (requestor-is j a (q .isRequestor)))) in
+        let beside = inv .entriesApart t c w a (j .way) n (rw same (writable-held (g .mailbox t c .known w .state) wr))
+              (rw (q .entry, en .0) (ok .gets)) (rw (same, q .entry, en .1) bl) in
+        writable-alone (g .mailbox t c .known w .state) (g .entry t a (j .way) .state) wr (rw same at (beside .1))
     own : c ≡ a → w ≡ j .way → ⊥
     own p i = before-not-writable j (g .mailbox t a .known (j .way)) (q .before) (rw (p, i) at wr)
     go : (c ≡ a) ⊎ (c ≡ a → ⊥) → (w ≡ j .way) ⊎ (w ≡ j .way → ⊥) → ⊥
@@ -118,5 +119,4 @@ store-keeps g inv s c w b ws e h = record {
     k = record { memory = g .atMemory b .memory; pending = g .atMemory b .pending; latest = ws }
     home : setOf (g .geometry) b ≡ s
     home = ap (setOf (g .geometry)) (sym (inv .agrees s c w .block ∙ e))
-        ∙ inv .copiesHome s c w
-          (writable-held (g .mailbox s c .known w .state) (shows-writable (g .mailbox s c .known w .state) (g .way s c w .state) (inv .agrees s c w .state) h)) .0
+        ∙ inv .copiesHome s c w (writable-held (g .mailbox s c .known w .state) (known-writable g inv s c w h)) .0
