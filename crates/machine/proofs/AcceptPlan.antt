@@ -7,7 +7,7 @@ use lib.Dec.{eqb}
 use Rattle.std.proofs.shelf.Tests.{false≢true, eq-eqb}
 use Rattle.bedrock.specs.Geometries.{Sizes, setOf}
 use Rattle.protocols.specs.declared.state.State.{State}
-use Rattle.protocols.specs.declared.state.State.the-variants.{I, S, M, O, F}
+use Rattle.protocols.specs.declared.state.State.the-variants.{S, M, O, F}
 use Rattle.protocols.specs.States.{held, owning, writable, dirty}
 use Rattle.machine.specs.declared.holding.Entry.{Entry}
 use Rattle.machine.specs.declared.transaction.Source.{Source}
@@ -20,28 +20,31 @@ use Rattle.machine.proofs.Updates.{update₂, update₂-each, put₂-is}
 use Rattle.machine.proofs.Mailboxes.{readOnly}
 use Rattle.machine.proofs.Invariant.{goTogether, Apart, AllApart, Blank}
 use Rattle.machine.proofs.StateFacts.{owning-held, read-only-held, writable-alone, beside-owner, read-only-S, together-sym, held-entry, entry-held, entry-blank}
-use Rattle.machine.proofs.Frames.{Weaker, weaker-same, weaker-none, shrinks}
-use Rattle.machine.proofs.StepTransfer.{weaker-owner}
+use Rattle.machine.proofs.Frames.{Weaker, weaker-same, weaker-none, weaker-owner, shrinks}
 
 -- every other cache that shows the block shows S
 abbrev pub OthersShare : (ℕ → ℕ → Entry) → Job → Type 0
 OthersShare f j = (c x : ℕ) → (c ≡ j .requestor → ⊥) → held (f c x .state) ≡ true → f c x .block ≡ j .block → f c x .state ≡ S
 
--- another owner hands over
+-- beside another cache that shows the block, a Read gets a read-only copy
+abbrev pub GetsReadOnly : (ℕ → ℕ → Entry) → Job → Type 0
+GetsReadOnly f j = (c x : ℕ) → (c ≡ j .requestor → ⊥) → held (f c x .state) ≡ true → f c x .block ≡ j .block
+    → isWrite (j .access) ≡ false → readOnly (j .next) ≡ true
+
+-- another owner hands over: at way p it shows the block; it keeps nothing to store into; no dirty words are lost; what both
+-- then have goes together; and a Read that gets more than a read-only copy gets it from an owner in E or M
 pub record OwnerPlan (f : ℕ → ℕ → Entry) (j : Job) (o p : ℕ) (shown keeps : State) (writeback : Bool) : Type 0 where
   pub other : o ≡ j .requestor → ⊥
   pub owned : owning shown ≡ true
   pub at : f o p ≡ entryIn shown (j .block)
   pub letsGo : writable keeps ≡ false
   pub covered : (shown ≡ F) ⊎ ((writeback ≡ true) ⊎ ((keeps ≡ O) ⊎ (dirty (j .next) ≡ true)))
-  pub quits : isWrite (j .access) ≡ true → keeps ≡ I
   pub pair : held keeps ≡ true → goTogether (j .next) keeps ≡ true
   pub sole : isWrite (j .access) ≡ false → (readOnly (j .next) ≡ true) ⊎ (writable shown ≡ true)
 
 -- where the words come from, and what makes that right
 abbrev pub PlannedSource : (ℕ → ℕ → Entry) → Job → Source → Type 0
-PlannedSource f j Memory = (j .upgrade ≡ false) × OthersShare f j × ((c x : ℕ) → (c ≡ j .requestor → ⊥) → held (f c x .state) ≡ true
-    → f c x .block ≡ j .block → isWrite (j .access) ≡ false → readOnly (j .next) ≡ true)
+PlannedSource f j Memory = (j .upgrade ≡ false) × OthersShare f j × GetsReadOnly f j
 PlannedSource f j OwnCopy = (j .upgrade ≡ true) × OthersShare f j
 PlannedSource f j (Owner o p shown keeps writeback) = OwnerPlan f j o p shown keeps writeback
 
@@ -55,6 +58,7 @@ pub record Plan (n : Sizes) (s : ℕ) (f : ℕ → ℕ → Entry) (j : Job) : Ty
   pub notShown : j .upgrade ≡ false → (x : ℕ) → held (f (j .requestor) x .state) ≡ true → f (j .requestor) x .block ≡ j .block → ⊥
   pub source : PlannedSource f j (j .source)
 
+-- a sharer shows the block no more
 dismissed-weaker : (t : Bool) (b : ℕ) (e : Entry) → Weaker (dismissed t b e) e
 dismissed-weaker false b e = weaker-same e
 dismissed-weaker true b e = go (sharing (e .state) && eqb (e .block) b)
@@ -113,26 +117,30 @@ handed-weaker j f OwnCopy p c x = dismissed-weaker (isWrite (j .access)) (j .blo
 handed-weaker j f (Owner o q shown keeps writeback) p c x = update₂-each (λ c x z. Weaker z (f c x)) (cleared j f) o q (entryIn keeps (j .block))
     (rw (p .at) (weaker-owner shown keeps (j .block) (p .owned) (p .letsGo))) (λ c x _. dismissed-weaker (isWrite (j .access)) (j .block) (f c x)) c x
 
+-- of a write where the others share, nothing of the block stays with them
+none-stays : (j : Job) (f : ℕ → ℕ → Entry) (c x : ℕ) → (held (f c x .state) ≡ true → f c x .block ≡ j .block → f c x .state ≡ S)
+    → held (dismissed true (j .block) (f c x) .state) ≡ true → dismissed true (j .block) (f c x) .block ≡ j .block → ⊥
+none-stays j f c x share h b =
+    let a = dismissed-weaker true (j .block) (f c x) in
+    let bl : f c x .block ≡ j .block = a .same h ∙ b in
+    dismissed-not (j .block) (f c x) h bl (share (a .had h) bl)
+
 -- what stays of the block with other caches goes together with what the requestor gets
-beside-next : (j : Job) (f : ℕ → ℕ → Entry) → AllApart f → (isWrite (j .access) ≡ true → j .next ≡ M)
-    → (j .upgrade ≡ true → isWrite (j .access) ≡ true) → (r : Source) → PlannedSource f j r → (c x : ℕ) → (c ≡ j .requestor → ⊥)
+beside-next : (j : Job) (f : ℕ → ℕ → Entry) → AllApart f → (j .upgrade ≡ true → isWrite (j .access) ≡ true)
+    → (r : Source) → PlannedSource f j r → (c x : ℕ) → (c ≡ j .requestor → ⊥)
     → held (handOver r (j .block) (cleared j f) c x .state) ≡ true → handOver r (j .block) (cleared j f) c x .block ≡ j .block
     → goTogether (j .next) (handOver r (j .block) (cleared j f) c x .state) ≡ true
-beside-next j f ex wr up Memory p c x n h b = go (isWrite (j .access)) refl h b
+beside-next j f ex up Memory p c x n h b = go (isWrite (j .access)) refl h b
   where
     go : (t : Bool) → isWrite (j .access) ≡ t → held (dismissed t (j .block) (f c x) .state) ≡ true → dismissed t (j .block) (f c x) .block ≡ j .block
         → goTogether (j .next) (dismissed t (j .block) (f c x) .state) ≡ true
-    go true i h b = let a = dismissed-weaker true (j .block) (f c x) in
-        let bl : f c x .block ≡ j .block = a .same h ∙ b in absurd (dismissed-not (j .block) (f c x) h bl (p .1 c x n (a .had h) bl))
+    go true i h b = absurd (none-stays j f c x (p .1 c x n) h b)
     go false i h b = rw (p .1 c x n h b) (read-only-S (j .next) (p .2 c x n h b i) .0)
-beside-next j f ex wr up OwnCopy p c x n h b = go (isWrite (j .access)) refl h b
+beside-next j f ex up OwnCopy p c x n h b = absurd (none-stays j f c x (p .1 c x n) (rw writes at h) (rw writes at b))
   where
-    go : (t : Bool) → isWrite (j .access) ≡ t → held (dismissed t (j .block) (f c x) .state) ≡ true → dismissed t (j .block) (f c x) .block ≡ j .block
-        → goTogether (j .next) (dismissed t (j .block) (f c x) .state) ≡ true
-    go true i h b = let a = dismissed-weaker true (j .block) (f c x) in
-        let bl : f c x .block ≡ j .block = a .same h ∙ b in absurd (dismissed-not (j .block) (f c x) h bl (p .1 c x n (a .had h) bl))
-    go false i h b = absurd (false≢true (sym i ∙ up (p .0)))
-beside-next j f ex wr up (Owner o q shown keeps writeback) p c x n h b =
+    writes : isWrite (j .access) ≡ true
+    writes = up (p .0)
+beside-next j f ex up (Owner o q shown keeps writeback) p c x n h b =
     update₂-each (λ c x z. held (z .state) ≡ true → z .block ≡ j .block → goTogether (j .next) (z .state) ≡ true) (cleared j f) o q
       (entryIn keeps (j .block)) (λ hk _. let k = entry-held keeps (j .block) hk in rw (held-entry keeps (j .block) k .0) (p .pair k))
       (λ c x i. go (isWrite (j .access)) refl c x i) c x h b
@@ -145,11 +153,11 @@ beside-next j f ex wr up (Owner o q shown keeps writeback) p c x n h b =
     only-S c x i h b = beside-owner shown (f c x .state) (p .owned) (mate c x i h b)
     go : (t : Bool) → isWrite (j .access) ≡ t → (c x : ℕ) → (c ≡ o → x ≡ q → ⊥) → held (dismissed t (j .block) (f c x) .state) ≡ true
         → dismissed t (j .block) (f c x) .block ≡ j .block → goTogether (j .next) (dismissed t (j .block) (f c x) .state) ≡ true
-    go true i c x u h b = let a = dismissed-weaker true (j .block) (f c x) in
-        let bl : f c x .block ≡ j .block = a .same h ∙ b in absurd (dismissed-not (j .block) (f c x) h bl (only-S c x u (a .had h) bl))
+    go true i c x u h b = absurd (none-stays j f c x (only-S c x u) h b)
     go false i c x u h b = elim (p .sole i)
         [ inl l ↦ rw (only-S c x u h b) (read-only-S (j .next) l .0) | inr w ↦ absurd (writable-alone shown (f c x .state) w (mate c x u h b)) ]
 
+-- one entry more that is apart from the others
 apart-update : (f : ℕ → ℕ → Entry) (r w : ℕ) (e : Entry) → AllApart f
     → ((c x : ℕ) → (c ≡ r → x ≡ w → ⊥) → held (f c x .state) ≡ true → f c x .block ≡ e .block → held (e .state) ≡ true
       → (c ≡ r → ⊥) × (goTogether (e .state) (f c x .state) ≡ true))
@@ -166,7 +174,7 @@ pub settled-apart : (n : Sizes) (s : ℕ) (f : ℕ → ℕ → Entry) (j : Job) 
 settled-apart n s f j plan ex = apart-update (handed j f) (j .requestor) (j .way) (entryIn (j .next) (j .block)) (shrinks f (handed j f) weak ex)
     (λ c x i h b _. let en = held-entry (j .next) (j .block) (plan .gets) in let bl : handed j f c x .block ≡ j .block = b ∙ en .1 in
       (λ p. alone c x i p h bl,
-        rw (en .0) (beside-next j f ex (plan .writes) (plan .upgrades) (j .source) (plan .source) c x (λ p. alone c x i p h bl) h bl)))
+        rw (en .0) (beside-next j f ex (plan .upgrades) (j .source) (plan .source) c x (λ p. alone c x i p h bl) h bl)))
   where
     weak : (c x : ℕ) → Weaker (handed j f c x) (f c x)
     weak = handed-weaker j f (j .source) (plan .source)

@@ -1,6 +1,6 @@
 -- What a step leaves alone: parts of the invariant that hold after a small change.
 use mathlib.Core.Path.{_≡_, refl, sym, _∙_, ap, subst}
-use mathlib.Core.Bool.{true}
+use mathlib.Core.Bool.{true, false}
 use mathlib.Core.Logic.{_⊎_, inl, inr}
 use Prim.Native.Nat.{ℕ, _<_}
 use native.Mathlib.Omega.{arith}
@@ -9,18 +9,20 @@ use Rattle.std.specs.declared.option.Option.the-variants.{Some, None}
 use Rattle.std.proofs.shelf.Tests.{false≢true}
 use Rattle.bedrock.specs.Geometries.{setOf}
 use Rattle.protocols.specs.declared.state.State.{State}
-use Rattle.protocols.specs.States.{held, dirty}
+use Rattle.protocols.specs.declared.state.State.the-variants.{I, S, E, M, O, F}
+use Rattle.protocols.specs.States.{held, owning, writable, dirty}
 use Rattle.messages.specs.declared.command.Command.{Command}
 use Rattle.messages.specs.declared.response.Response.{Response}
 use Rattle.machine.specs.declared.holding.Way.{Way}
 use Rattle.machine.specs.declared.holding.Entry.{Entry}
 use Rattle.machine.specs.declared.transaction.Job.{Job}
-use Rattle.machine.specs.Holdings.{noEntry}
+use Rattle.machine.specs.Holdings.{noEntry, entryIn}
 use Rattle.machine.specs.Coherence.{Agrees}
 use Rattle.machine.proofs.Updates.{update, update₂, update₃, update-each, update₂-each, update₂-both}
 use Rattle.machine.proofs.Ghost.{Stage, Sent, Progress, atStage, Nothing, To, From, Mailbox, BlockAtMemory, Ghost}
 use Rattle.machine.proofs.Mailboxes.{readOnly}
 use Rattle.machine.proofs.Invariant.{goTogether, AllApart, AtHome, GoodPlace, GoodCopy, DirtyCopy, DirtyOnTheWay, Newest, Invariant}
+use Rattle.machine.proofs.StateFacts.{owning-held, beside-owner, owner-beside, held-entry}
 
 -- an entry that excludes less than the one before: nothing, the same, or the same block in a state that goes with more
 pub record Weaker (new before : Entry) : Type 0 where
@@ -30,12 +32,31 @@ pub record Weaker (new before : Entry) : Type 0 where
   pub right : (st : State) → held (new .state) ≡ true → goTogether st (before .state) ≡ true → goTogether st (new .state) ≡ true
   pub readsOnly : held (new .state) ≡ true → readOnly (before .state) ≡ true → readOnly (new .state) ≡ true
 
+-- the same, and nothing
 pub weaker-same : (e : Entry) → Weaker e e
 weaker-same e = record { had = λ h. h; same = λ _. refl; left = λ _ _ t. t; right = λ _ _ t. t; readsOnly = λ _ l. l }
 
 pub weaker-none : (e : Entry) → Weaker noEntry e
 weaker-none e = record { had = λ h. absurd (false≢true h); same = λ h. absurd (false≢true h); left = λ _ h. absurd (false≢true h);
     right = λ _ h. absurd (false≢true h); readsOnly = λ h. absurd (false≢true h) }
+
+-- a copy that is read only excludes less than an owner
+weaker-read-only : (shown : State) (b : ℕ) (e : Entry) → owning shown ≡ true → e .block ≡ b → readOnly (e .state) ≡ true
+    → goTogether (e .state) S ≡ true → goTogether S (e .state) ≡ true → Weaker e (entryIn shown b)
+weaker-read-only shown b e o bl l t u =
+    let i = held-entry shown b (owning-held shown o) in
+    record { had = λ _. rw (i .0) (owning-held shown o); same = λ _. i .1 ∙ sym bl;
+      left = λ st _ q. rw (beside-owner shown st o (rw (i .0) at q)) t; right = λ st _ q. rw (owner-beside shown st o (rw (i .0) at q)) u;
+          readsOnly = λ _ _. l }
+
+-- an owner that lets go excludes less
+pub weaker-owner : (shown keeps : State) (b : ℕ) → owning shown ≡ true → writable keeps ≡ false → Weaker (entryIn keeps b) (entryIn shown b)
+weaker-owner shown I b o k = weaker-none (entryIn shown b)
+weaker-owner shown S b o k = weaker-read-only shown b (record { state = S; block = b }) o refl refl refl refl
+weaker-owner shown E b o k = absurd (false≢true (sym k))
+weaker-owner shown M b o k = absurd (false≢true (sym k))
+weaker-owner shown O b o k = weaker-read-only shown b (record { state = O; block = b }) o refl refl refl refl
+weaker-owner shown F b o k = weaker-read-only shown b (record { state = F; block = b }) o refl refl refl refl
 
 -- entries that exclude less are still apart
 pub shrinks : (f g : ℕ → ℕ → Entry) → ((c w : ℕ) → Weaker (g c w) (f c w)) → AllApart f → AllApart g

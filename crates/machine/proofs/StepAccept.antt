@@ -35,6 +35,8 @@ use Rattle.machine.proofs.MailFacts.{requestor-is}
 use Rattle.machine.proofs.AcceptPlan.{OwnerPlan, PlannedSource, Plan, handOver, cleared, handed, settle, handed-weaker, settled-apart, settled-blank}
 use Rattle.machine.proofs.AcceptEntries.{NotOwner, hand-there, untouched, giver-source, bystander-not, Dismisses, Leaves}
 
+-- The set has no transaction. The plan is lawful, the stage is one of round one, the requestor waits with an order of the job, and
+-- mail is what goes out: to the requestor what empties its way, to each sharer of a block that is written an Invalidate.
 module _ (g : Ghost) (inv : Invariant g) (s : ℕ) (j : Job) (st : Stage) (mail : ℕ → Mail)
     (idle : g .progress s ≡ None) (plan : Plan (g .geometry) s (g .entry s) j)
     (round-one : (st ≡ Evicting) ⊎ (st ≡ Clearing))
@@ -57,6 +59,7 @@ module _ (g : Ghost) (inv : Invariant g) (s : ℕ) (j : Job) (st : Stage) (mail 
   afterAccept = record { geometry = g .geometry; entry = update (g .entry) s (settle j f); way = g .way; mailbox = update (g .mailbox) s mailboxesNow;
       progress = update (g .progress) s (Some now); waiter = update (g .waiter) (j .requestor) waiterNow; atMemory = g .atMemory }
 
+  -- the caches know all entries
   same : (c x : ℕ) → f c x ≡ g .mailbox s c .known x
   same c x = rw idle at (inv .mailboxes s c) .0 x
 

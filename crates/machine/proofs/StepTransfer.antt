@@ -12,8 +12,8 @@ use Rattle.bedrock.specs.declared.party.Party.{Party}
 use Rattle.bedrock.specs.declared.party.Party.the-variants.{Cache}
 use Rattle.bedrock.specs.Geometries.{setOf}
 use Rattle.protocols.specs.declared.state.State.{State}
-use Rattle.protocols.specs.declared.state.State.the-variants.{I, S, E, M, O, F}
-use Rattle.protocols.specs.States.{held, owning, writable, dirty}
+use Rattle.protocols.specs.declared.state.State.the-variants.{O, F}
+use Rattle.protocols.specs.States.{held, dirty}
 use Rattle.messages.specs.declared.command.Command.the-variants.{SetTagData}
 use Rattle.machine.specs.declared.holding.Way.{Way}
 use Rattle.machine.specs.declared.holding.Entry.{Entry}
@@ -23,32 +23,14 @@ use Rattle.machine.specs.Holdings.{wayIn, entryIn}
 use Rattle.machine.specs.Coherence.{Shows, Agrees}
 use Rattle.machine.proofs.Updates.{update, update₂, update₃, update-each, update-both, update-here, update-there, update₃-here}
 use Rattle.machine.proofs.Ghost.{Asked, Sent, Progress, atStage, Mail, To, Mailbox, Pending, Idle, BlockAtMemory, Ghost}
-use Rattle.machine.proofs.Mailboxes.{Role, Requestor, Giver, Bystander, role, NoCommand, readOnly, InRole, GoodMailbox}
-use Rattle.machine.proofs.Invariant.{goTogether, AllApart, AtHome, OwnerLaw, GoodSource, GoodJob, GoodProgress, GoodWait, GoodPlace, isReading, GoodCopy, GoodMail, DirtyCopy, DirtyOnTheWay, Newest, Invariant}
-use Rattle.machine.proofs.StateFacts.{shows-owning, owning-held, beside-owner, owner-beside, held-entry, agrees-in, way-is, way-none}
-use Rattle.machine.proofs.Frames.{Weaker, weaker-same, weaker-none, shrinks, copies-after, newest-progress, not-sent, newest-way}
+use Rattle.machine.proofs.Mailboxes.{Role, Requestor, Giver, Bystander, role, NoCommand, InRole, GoodMailbox}
+use Rattle.machine.proofs.Invariant.{AllApart, AtHome, OwnerLaw, GoodSource, GoodJob, GoodProgress, GoodWait, GoodPlace, isReading, GoodCopy, GoodMail, DirtyCopy, DirtyOnTheWay, Newest, Invariant}
+use Rattle.machine.proofs.StateFacts.{shows-owning, owning-held, held-entry, agrees-in, way-is, way-none}
+use Rattle.machine.proofs.Frames.{Weaker, weaker-same, weaker-owner, shrinks, copies-after, newest-progress, not-sent, newest-way}
 use Rattle.machine.proofs.BlockFrames.{pendings-after, newest-way-after, pending-ranges-after, latest-same}
 use Rattle.machine.proofs.MailFacts.{requestor-is, requestor-role, requestor-at, job-range}
 use Rattle.machine.proofs.StepMemoryRead.{sentMailbox}
 use Rattle.machine.proofs.StepWriteback.{comingIf, coming-no-read}
-
--- a copy that is read only excludes less than an owner
-weaker-read-only : (shown : State) (b : ℕ) (e : Entry) → owning shown ≡ true → e .block ≡ b → readOnly (e .state) ≡ true
-    → goTogether (e .state) S ≡ true → goTogether S (e .state) ≡ true → Weaker e (entryIn shown b)
-weaker-read-only shown b e o bl l t u =
-    let i = held-entry shown b (owning-held shown o) in
-    record { had = λ _. rw (i .0) (owning-held shown o); same = λ _. i .1 ∙ sym bl;
-      left = λ st _ q. rw (beside-owner shown st o (rw (i .0) at q)) t; right = λ st _ q. rw (owner-beside shown st o (rw (i .0) at q)) u;
-          readsOnly = λ _ _. l }
-
--- an owner that lets go excludes less
-pub weaker-owner : (shown keeps : State) (b : ℕ) → owning shown ≡ true → writable keeps ≡ false → Weaker (entryIn keeps b) (entryIn shown b)
-weaker-owner shown I b o k = weaker-none (entryIn shown b)
-weaker-owner shown S b o k = weaker-read-only shown b (record { state = S; block = b }) o refl refl refl refl
-weaker-owner shown E b o k = absurd (false≢true (sym k))
-weaker-owner shown M b o k = absurd (false≢true (sym k))
-weaker-owner shown O b o k = weaker-read-only shown b (record { state = O; block = b }) o refl refl refl refl
-weaker-owner shown F b o k = weaker-read-only shown b (record { state = F; block = b }) o refl refl refl refl
 
 -- words are on their way to the memory if the owner was told to write back and its copy was dirty
 abbrev pub comingBack : Bool → Bool → Words → Pending
