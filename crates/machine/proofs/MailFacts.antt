@@ -31,8 +31,7 @@ pub record DataFacts (h : Option Progress) (c : ℕ) (e : ℕ → Entry) (x : Ma
   pub before : BeforeFill job (x .known (job .way))
 
 data-at : (j : Job) (s : Stage) (a : Role) (c : ℕ) (e : ℕ → Entry) (x : Mailbox) (d b w : ℕ) (st : State) (ws : Words) (sender : Party)
-    → x .mail ≡ To (SetTagData d b w st ws sender)
-    → role j c ≡ a → InRole (atStage s j) c e x a → DataFacts (Some (atStage s j)) c e x d b w st
+    → x .mail ≡ To (SetTagData d b w st ws sender) → role j c ≡ a → InRole (atStage s j) c e x a → DataFacts (Some (atStage s j)) c e x d b w st
 data-at j Evicting Requestor c e x d b w st ws sender m i ok = grind arith
 data-at j Clearing Requestor c e x d b w st ws sender m i ok = grind arith
 data-at j Asked Requestor c e x d b w st ws sender m i ok = grind arith
@@ -51,8 +50,7 @@ data-at j Sent Bystander c e x d b w st ws sender m i ok = grind arith
 data-at j Filled Bystander c e x d b w st ws sender m i ok = grind arith
 
 pub data-facts : (h : Option Progress) (c : ℕ) (e : ℕ → Entry) (x : Mailbox) (d b w : ℕ) (st : State) (ws : Words) (sender : Party)
-    → x .mail ≡ To (SetTagData d b w st ws sender)
-    → GoodMailbox h c e x → DataFacts h c e x d b w st
+    → x .mail ≡ To (SetTagData d b w st ws sender) → GoodMailbox h c e x → DataFacts h c e x d b w st
 data-facts None c e x d b w st ws sender m ok = grind arith
 data-facts (Some h) c e x d b w st ws sender m ok = data-at (h .job) (h .stage) (role (h .job) c) c e x d b w st ws sender m refl ok
 
@@ -72,8 +70,7 @@ requestor-role j = rw (eq-eqb (j .requestor) (j .requestor) refl)
 
 -- a mailbox, with the set's progress and the cache's role as they are
 pub mailbox-at : (h : Option Progress) (j : Job) (s : Stage) (a : Role) (c : ℕ) (e : ℕ → Entry) (x : Mailbox) → h ≡ Some (atStage s j) → role j c ≡ a
-    → GoodMailbox h c e x
-    → InRole (atStage s j) c e x a
+    → GoodMailbox h c e x → InRole (atStage s j) c e x a
 mailbox-at h j s a c e x i r ok = rw r at (rw i at ok)
 
 -- after the fill every cache knows its entries

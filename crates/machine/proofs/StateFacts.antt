@@ -101,6 +101,14 @@ read-only-held M l = refl
 read-only-held O l = refl
 read-only-held F l = refl
 
+pub surely-clean-held : (st : State) → surelyClean st ≡ true → held st ≡ true
+surely-clean-held I h = h
+surely-clean-held S h = refl
+surely-clean-held E h = refl
+surely-clean-held M h = refl
+surely-clean-held O h = refl
+surely-clean-held F h = refl
+
 -- ---- which states go together
 
 pub writable-alone : (e f : State) → writable e ≡ true → goTogether e f ≡ true → ⊥

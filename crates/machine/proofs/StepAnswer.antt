@@ -55,8 +55,8 @@ answer-keeps g inv s c r m = record {
   places = places-after g inv s c y weak;
   agrees = update₂-each (λ t a z. (w : ℕ) → Agrees (z .known w) (g .way t a w)) (g .mailbox) s c y (inv .agrees s c) (λ t a _. inv .agrees t a);
   copies = inv .copies;
-  mails =
-      update₂-each (λ t a z. GoodMail (g .atMemory) (z .mail)) (g .mailbox) s c y (λ _ _ _ _ _ _ q. absurd (no-mail-to q)) (λ t a _. inv .mails t a);
+  mails = update₂-each (λ t a z. GoodMail (g .atMemory) (z .mail)) (g .mailbox) s c y (λ _ _ _ _ _ _ q. absurd (no-mail-to q))
+      (λ t a _. inv .mails t a);
   newest = inv .newest }
   where
     y : Mailbox

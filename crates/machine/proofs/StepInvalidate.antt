@@ -82,8 +82,8 @@ invalidate-keeps g inv s c d b p r m = record {
   agrees = agrees-after g inv s c p noWay y
       (update-both (λ w o v. Agrees o v) (x .known) (g .way s c) p noEntry noWay (record { state = refl; block = refl }) (λ w _. inv .agrees s c w));
   copies = copies-after g (g .atMemory) s c p noWay (λ h. absurd (false≢true h)) (λ t a w _. inv .copies t a w);
-  mails =
-      update₂-each (λ t a z. GoodMail (g .atMemory) (z .mail)) (g .mailbox) s c y (λ _ _ _ _ _ _ q. absurd (no-answer q)) (λ t a _. inv .mails t a);
+  mails = update₂-each (λ t a z. GoodMail (g .atMemory) (z .mail)) (g .mailbox) s c y (λ _ _ _ _ _ _ q. absurd (no-answer q))
+      (λ t a _. inv .mails t a);
   newest = λ k. elim (inv .newest k)
       [ inl q ↦ inl q | inr q ↦ inr (elim q [ inl u ↦ inl (dirty-after (g .way) s c p noWay clean (setOf (g .geometry) k) k u) | inr u ↦ inr u ]) ] }
   where

@@ -70,8 +70,8 @@ round-two-keeps g inv s j h quiet = record {
   jobs = update-each (λ t z. GoodProgress (g .geometry) t (g .entry t) z) (g .progress) s (Some now) ok (λ t _. inv .jobs t);
   entriesApart = inv .entriesApart; entriesHome = inv .entriesHome; blanks = inv .blanks; asks = inv .asks; ranges = inv .ranges;
   copiesApart = update-each (λ t z. AllApart (λ c. z c .known)) (g .mailbox) s f (inv .copiesApart s) (λ t _. inv .copiesApart t);
-  copiesHome =
-      update-each (λ t z. (c w : ℕ) → AtHome (g .geometry) t c w (z c .known w)) (g .mailbox) s f (inv .copiesHome s) (λ t _. inv .copiesHome t);
+  copiesHome = update-each (λ t z. (c w : ℕ) → AtHome (g .geometry) t c w (z c .known w)) (g .mailbox) s f (inv .copiesHome s)
+      (λ t _. inv .copiesHome t);
   places = update-each (λ t z. (c : ℕ) → GoodPlace (z c) (g .waiter c)) (g .mailbox) s f (inv .places s) (λ t _. inv .places t);
   agrees = update-each (λ t z. (c w : ℕ) → Agrees (z c .known w) (g .way t c w)) (g .mailbox) s f (inv .agrees s) (λ t _. inv .agrees t);
   waits = update-each (λ t z. (c : ℕ) → GoodWait (g .geometry) t z c (g .waiter c)) (g .progress) s (Some now) (λ c. rw h at (inv .waits s c))

@@ -95,8 +95,8 @@ pub writeback-keeps : (g : Ghost) → Invariant g → (s b : ℕ) (r : Response)
     → (b ≡ j .block → ⊥) → g .mailbox s (j .requestor) .known (j .way) .block ≡ b → held (g .mailbox s (j .requestor) .known (j .way) .state) ≡ true
     → j .upgrade ≡ false → Invariant (afterWriteback g s j b (j .way) r)
 writeback-keeps g inv s b r j h other bl hd up = record {
-  mailboxes =
-      update-both (λ t z f. (c : ℕ) → GoodMailbox z c (g .entry t c) (f c)) (g .progress) (g .mailbox) s (Some now) (update (g .mailbox s) c y)
+  mailboxes = update-both
+      (λ t z f. (c : ℕ) → GoodMailbox z c (g .entry t c) (f c)) (g .progress) (g .mailbox) s (Some now) (update (g .mailbox s) c y)
       (update-each (λ d z. InRole now d (g .entry s d) z (role j d)) (g .mailbox s) c y
         (rw (requestor-role j) (self (requestor-at g inv s j Evicting h)))
         (λ d n. clearing-other j (role j d) d (g .entry s d) (g .mailbox s d) refl n (rw h at (inv .mailboxes s d)))) (λ t _. inv .mailboxes t);
