@@ -31,3 +31,6 @@ mod StepClose
 mod Matches
 mod Counts
 mod Searches
+mod Rooms
+mod Reached
+mod Lifting
