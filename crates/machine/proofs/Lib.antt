@@ -34,3 +34,4 @@ mod Searches
 mod Rooms
 mod Reached
 mod Lifting
+mod LiftInvalidate
