@@ -35,3 +35,5 @@ mod Rooms
 mod Reached
 mod Lifting
 mod LiftInvalidate
+mod LiftHit
+mod LiftMiss
