@@ -37,3 +37,4 @@ mod Lifting
 mod LiftInvalidate
 mod LiftHit
 mod LiftMiss
+mod LiftWriteback
