@@ -38,3 +38,4 @@ mod LiftInvalidate
 mod LiftHit
 mod LiftMiss
 mod LiftWriteback
+mod LiftFill
