@@ -39,3 +39,5 @@ mod LiftHit
 mod LiftMiss
 mod LiftWriteback
 mod LiftFill
+mod LiftData
+mod LiftWakeup
