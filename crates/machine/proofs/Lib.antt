@@ -41,3 +41,5 @@ mod LiftWriteback
 mod LiftFill
 mod LiftData
 mod LiftWakeup
+mod TransferFacts
+mod LiftTransfer
