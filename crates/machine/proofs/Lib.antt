@@ -31,3 +31,7 @@ mod StepClose
 mod Matches
 mod Counts
 mod Searches
+mod CountBound
+mod Lifted
+mod Unguarded
+mod LiftClose
