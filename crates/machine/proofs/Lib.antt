@@ -35,3 +35,6 @@ mod CountBound
 mod Lifted
 mod Unguarded
 mod LiftClose
+mod ShownEntries
+mod RowFacts
+mod Planning
