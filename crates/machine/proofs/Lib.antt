@@ -38,3 +38,4 @@ mod LiftClose
 mod ShownEntries
 mod RowFacts
 mod Planning
+mod RoundOne
