@@ -31,7 +31,10 @@ mod StepClose
 mod Matches
 mod Counts
 mod Searches
-mod CountBound
+mod Rooms
+mod Reached
+mod Lifting
+mod LiftInvalidate
 mod Lifted
 mod Unguarded
 mod LiftClose

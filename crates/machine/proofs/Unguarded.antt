@@ -1,7 +1,7 @@
 -- The directory's steps with unguarded tables: where keys are in range and counts are small they are the machine's own.
 use mathlib.Core.Path.{_≡_, refl, _∙_, ap}
 use mathlib.Core.Bool.{Bool, true, false, cond}
-use Prim.Native.Nat.{ℕ, _+_, _<_}
+use Prim.Native.Nat.{ℕ, _+_, _<_, _≤_}
 use native.Mathlib.Omega.{arith}
 use lib.Dec.{eqb}
 use Rattle.std.specs.declared.option.Option.{Option}
@@ -19,7 +19,7 @@ use Rattle.machine.specs.Acceptance.{settled, recordJob, fetch, beginTwo}
 use Rattle.machine.specs.Responses.{close}
 use Rattle.machine.proofs.Updates.{update, put-is}
 use Rattle.machine.proofs.AcceptPlan.{settle, OwnerInRange, settled-is}
-use Rattle.machine.proofs.CountBound.{one-more-is}
+use Rattle.machine.proofs.Rooms.{one-more-is}
 
 -- ---- one table changed
 
@@ -63,7 +63,7 @@ ask m j (Owner o p shown keeps writeback) =
 abbrev pub begin : Machine → Job → Machine
 begin m j = setServing (ask m j (j .source)) (home m (j .block)) (Some (record { job = j; round = Two }))
 
-module _ (m : Machine) (j : Job) (low : home m (j .block) < 16) (small : m .count (home m (j .block)) < 65535) where
+module _ (m : Machine) (j : Job) (low : home m (j .block) < 16) (small : m .count (home m (j .block)) ≤ 1000) where
   ask-is : (z : Source) → fetch m j z ≡ ask m j z
   ask-is Memory =
       count-is (askMemory m (Read (j .block) (j .requestor) (j .way) (j .next))) (home m (j .block)) (oneMore (m .count (home m (j .block)))) low
