@@ -42,3 +42,5 @@ mod ShownEntries
 mod RowFacts
 mod Planning
 mod RoundOne
+mod AlmostMatches
+mod LiftRoundTwo
