@@ -44,3 +44,4 @@ mod Planning
 mod RoundOne
 mod AlmostMatches
 mod LiftRoundTwo
+mod AnswerTaken
