@@ -45,3 +45,4 @@ mod RoundOne
 mod AlmostMatches
 mod LiftRoundTwo
 mod AnswerTaken
+mod LiftResponse
