@@ -43,3 +43,14 @@ mod LiftData
 mod LiftWakeup
 mod TransferFacts
 mod LiftTransfer
+mod Lifted
+mod Unguarded
+mod LiftClose
+mod ShownEntries
+mod RowFacts
+mod Planning
+mod RoundOne
+mod AlmostMatches
+mod LiftRoundTwo
+mod AnswerTaken
+mod LiftResponse
