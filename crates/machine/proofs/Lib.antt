@@ -54,3 +54,5 @@ mod AlmostMatches
 mod LiftRoundTwo
 mod AnswerTaken
 mod LiftResponse
+mod LiftMemoryWrite
+mod LiftMemoryRead
