@@ -56,3 +56,4 @@ mod AnswerTaken
 mod LiftResponse
 mod LiftMemoryWrite
 mod LiftMemoryRead
+mod StepRooms
