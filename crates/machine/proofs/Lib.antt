@@ -46,3 +46,5 @@ mod AlmostMatches
 mod LiftRoundTwo
 mod AnswerTaken
 mod LiftResponse
+mod RequestTaken
+mod FirstMail
