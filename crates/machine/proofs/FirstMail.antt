@@ -55,6 +55,10 @@ pub record OwnPart (m : Machine) (x : Added) (q : Request) (own : List Command) 
   pub mailbox : (f : ℕ → Entry) → AsRequestor stage (jobFor m q) f (record { known = x .mailbox (home m (q .block)) (q .cache) .known; mail = mailOf own })
   pub noEviction : own ≡ [] → stage ≡ Clearing
 
+pub own-mailbox : (m : Machine) (x : Added) (q : Request) (p : OwnPart m x q (ownCommand m q)) (f : ℕ → Entry)
+    → AsRequestor (p .stage) (jobFor m q) f (record { known = x .mailbox (home m (q .block)) (q .cache) .known; mail = firstMail m q (q .cache) })
+own-mailbox m x q p f = rw (eq-eqb (q .cache) (q .cache) refl) (p .mailbox f)
+
 module _ (m : Machine) (x : Added) (inv : Invariant (ghostOf m x)) (lawful : (st : State) → LawfulRow st (m .rows st)) (q : Request)
     (idle : x .progress (home m (q .block)) ≡ None) (asked : x .request (q .cache) ≡ Some q) where
   abbrev s : ℕ
@@ -115,6 +119,3 @@ module _ (m : Machine) (x : Added) (inv : Invariant (ghostOf m x)) (lawful : (st
       go true w false k = inr (record { none = refl; notShared = λ _ y a b. false≢true (sym k
           ∙ ap sharing (state-at m (in-range m x inv lawful q idle asked) c (q .block) y (inv .entriesApart s) (rw a refl) b ∙ a)) })
       go false w u k = inr (record { none = refl; notShared = λ a. absurd (false≢true (sym w ∙ a)) })
-
-  pub mine : (f : ℕ → Entry) → AsRequestor (own-part .stage) j f (record { known = known; mail = firstMail m q (q .cache) })
-  mine f = rw (eq-eqb (q .cache) (q .cache) refl) (own-part .mailbox f)

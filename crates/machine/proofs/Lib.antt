@@ -48,3 +48,4 @@ mod AnswerTaken
 mod LiftResponse
 mod RequestTaken
 mod FirstMail
+mod LiftAccept
