@@ -35,6 +35,14 @@ mod Rooms
 mod Reached
 mod Lifting
 mod LiftInvalidate
+mod LiftHit
+mod LiftMiss
+mod LiftWriteback
+mod LiftFill
+mod LiftData
+mod LiftWakeup
+mod TransferFacts
+mod LiftTransfer
 mod Lifted
 mod Unguarded
 mod LiftClose

@@ -19,6 +19,7 @@ use Rattle.messages.specs.declared.response.Response.{Response}
 use Rattle.messages.specs.Messages.{commandCache, commandBlock, responseCache, responseBlock}
 use Rattle.wires.specs.Waiting.{without}
 use Rattle.machine.specs.declared.holding.Way.{Way}
+use Rattle.machine.specs.declared.holding.Entry.{Entry}
 use Rattle.machine.specs.declared.order.Order.{Order}
 use Rattle.machine.specs.declared.transaction.Job.{Job}
 use Rattle.machine.specs.declared.transaction.Round.{Round}
@@ -30,7 +31,7 @@ use Rattle.machine.proofs.Updates.{update, update₂, update₃, update-each, 
 use Rattle.machine.proofs.Keys.{taken-other, kept-push-no, kept-push-yes}
 use Rattle.machine.proofs.Weights.{weigh, weigh-taken, weigh-push}
 use Rattle.machine.proofs.Ranges.{Bounds, set-below, cache-below, way-below}
-use Rattle.machine.proofs.Ghost.{Stage, atStage, Nothing, To, From, Mailbox, Waiter, Pending, BlockAtMemory}
+use Rattle.machine.proofs.Ghost.{Stage, atStage, Nothing, To, From, Mailbox, Waiter, Pending, BlockAtMemory, Ghost}
 use Rattle.machine.proofs.Matches.{Added, Matches, toMailbox, fromMailbox, mailSlot, took-command, commandWeight, responseWeight, memoryWeight, commandOne, ackOwed, Left, LeftIn, SameProgress, InRound}
 
 -- ---- guarded tables of a machine within its bounds
@@ -47,6 +48,13 @@ cache-put m bounds f c v p = put-is 8 f c v (cache-below (m .geometry) bounds c 
 
 pub set-put : {A : Type 0} (m : Machine) → Bounds (m .geometry) → (f : ℕ → A) (b : ℕ) (v : A) → put 16 f (home m b) v ≡ update f (home m b) v
 set-put m bounds f b v = put-is 16 f (home m b) v (set-below (m .geometry) bounds b)
+
+-- the ghost state of a machine, by the machine's tables
+abbrev pub ghostIn : Sizes → (ℕ → ℕ → ℕ → Entry) → (ℕ → ℕ → ℕ → Way) → (ℕ → Option Order) → (ℕ → Words) → Added → Ghost
+ghostIn n entries ways kept memory x = record {
+  geometry = n; entry = entries; way = ways; mailbox = x .mailbox; progress = x .progress;
+  waiter = λ c. record { kept = kept c; request = x .request c };
+  atMemory = λ b. record { memory = memory b; pending = x .pending b; latest = x .latest b } }
 
 -- ---- tables
 
