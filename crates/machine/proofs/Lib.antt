@@ -57,3 +57,6 @@ mod LiftResponse
 mod LiftMemoryWrite
 mod LiftMemoryRead
 mod StepRooms
+mod RequestTaken
+mod FirstMail
+mod LiftAccept
