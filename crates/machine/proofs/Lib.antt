@@ -60,3 +60,4 @@ mod StepRooms
 mod RequestTaken
 mod FirstMail
 mod LiftAccept
+mod CallKeeps
