@@ -61,3 +61,4 @@ mod RequestTaken
 mod FirstMail
 mod LiftAccept
 mod CallKeeps
+mod RunsCohere
