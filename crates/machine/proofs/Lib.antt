@@ -57,3 +57,6 @@ mod LiftResponse
 mod RequestTaken
 mod FirstMail
 mod LiftAccept
+mod LiftedKeeps
+mod DirectoryRooms
+mod DirectoryKeeps
