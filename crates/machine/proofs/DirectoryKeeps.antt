@@ -1,8 +1,8 @@
 -- The deliveries to the directory, of a request and of a response, keep what every run keeps.
-use mathlib.Core.Path.{_≡_, refl, _∙_}
+use mathlib.Core.Path.{_≡_, refl}
 use mathlib.Core.Bool.{Bool, true, false, cond, _||_}
 use mathlib.Core.List.{List, [], _∷_, _++_}
-use Prim.Native.Nat.{ℕ, suc, _+_, _≤_}
+use Prim.Native.Nat.{ℕ, suc, _+_}
 use native.Mathlib.Omega.{arith}
 use lib.Dec.{eqb, ltb, leb}
 use lib.ListN.{length}
@@ -17,16 +17,15 @@ use Rattle.messages.specs.declared.command.Command.{Command}
 use Rattle.messages.specs.declared.response.Response.{Response}
 use Rattle.messages.specs.Messages.{responseBlock}
 use Rattle.wires.specs.Waiting.{without}
-use Rattle.machine.specs.declared.transaction.Job.{Job}
 use Rattle.machine.specs.Machines.{Machine, home, withRequests, withCommands}
-use Rattle.machine.specs.Outcomes.{Outcome, refuse, moveOn}
+use Rattle.machine.specs.Outcomes.{refuse, moveOn}
 use Rattle.machine.specs.Acceptance.{jobFor, firstRound, recordJob, beginTwo, fromMemory, accept, deliverRequest}
 use Rattle.machine.specs.Responses.{close, advance, takeResponse, writesOn, starts, memoryReads, commandsSent, deliverResponse}
 use Rattle.machine.specs.Runs.{delivers, Event}
 use Rattle.machine.proofs.Ranges.{set-below}
 use Rattle.machine.proofs.RowLaws.{LawfulRow, lawful-row}
 use Rattle.machine.proofs.Matches.{Added}
-use Rattle.machine.proofs.Rooms.{Rooms, taken-length, append-length, count-most}
+use Rattle.machine.proofs.Rooms.{taken-length, append-length, count-most}
 use Rattle.machine.proofs.Reached.{Reached, Keeps}
 use Rattle.machine.proofs.LiftResponse.{response-lifts}
 use Rattle.machine.proofs.LiftAccept.{accept-sends, accept-begins}

@@ -1,7 +1,6 @@
 -- What the directory's steps send has room: they ask for it first.
-use mathlib.Core.Path.{_≡_, refl}
+use mathlib.Core.Path.{_≡_}
 use mathlib.Core.Bool.{Bool, true, false, cond}
-use mathlib.Core.List.{List, [], _∷_, _++_}
 use Prim.Native.Nat.{ℕ, zero, suc, _+_, _≤_}
 use native.Mathlib.Omega.{arith}
 use lib.Dec.{eqb, leb}
@@ -14,7 +13,6 @@ use Rattle.messages.specs.declared.command.Command.the-variants.{Transfer, SetS
 use Rattle.messages.specs.declared.response.Response.{Response}
 use Rattle.messages.specs.declared.response.Response.the-variants.{InvalidateAck, CoherenceAck, Writeback, NullWriteback}
 use Rattle.messages.specs.declared.memory_command.MemoryCommand.the-variants.{Read, Write}
-use Rattle.wires.specs.Waiting.{without}
 use Rattle.machine.specs.declared.transaction.Source.{Source}
 use Rattle.machine.specs.declared.transaction.Source.the-variants.{Memory, OwnCopy, Owner}
 use Rattle.machine.specs.declared.transaction.Job.{Job}

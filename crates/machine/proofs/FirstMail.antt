@@ -5,7 +5,6 @@ use mathlib.Core.Logic.{_⊎_, inl, inr}
 use mathlib.Core.List.{List, [], _∷_}
 use Prim.Native.Nat.{ℕ}
 use native.Mathlib.Omega.{arith}
-use lib.Dec.{eqb}
 use Rattle.std.specs.Orderings.{When}
 use Rattle.std.specs.declared.option.Option.the-variants.{Some, None}
 use Rattle.std.proofs.shelf.Tests.{false≢true, eq-eqb, ne-eqb}
@@ -29,7 +28,7 @@ use Rattle.machine.proofs.AcceptPlan.{Plan}
 use Rattle.machine.proofs.AcceptEntries.{Dismisses, Leaves}
 use Rattle.machine.proofs.Matches.{Added, ghostOf}
 use Rattle.machine.proofs.ShownEntries.{ShownAt, shown-held, state-at}
-use Rattle.machine.proofs.Planning.{entry-from, in-range, known-is, planned}
+use Rattle.machine.proofs.Planning.{in-range, known-is, planned}
 use Rattle.machine.proofs.RoundOne.{mailOf, ownCommand, firstMail}
 
 clean-is : (st : State) → held st ≡ true → mayBeDirty st ≡ false → surelyClean st ≡ true

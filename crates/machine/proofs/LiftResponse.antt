@@ -12,7 +12,7 @@ use Rattle.std.specs.declared.option.Option.{Option}
 use Rattle.std.specs.declared.option.Option.the-variants.{Some, None}
 use Rattle.std.proofs.shelf.Tests.{eq-eqb, ne-eqb, and-from}
 use Rattle.bedrock.specs.declared.words.Words.{Words}
-use Rattle.bedrock.specs.Geometries.{setOf}
+use Rattle.bedrock.specs.Geometries.{Sizes}
 use Rattle.messages.specs.declared.response.Response.{Response}
 use Rattle.messages.specs.declared.response.Response.the-variants.{InvalidateAck, CoherenceAck, Writeback, NullWriteback}
 use Rattle.messages.specs.declared.memory_command.MemoryCommand.{MemoryCommand}
@@ -21,7 +21,7 @@ use Rattle.messages.specs.Messages.{responseCache, responseBlock}
 use Rattle.wires.specs.Waiting.{without}
 use Rattle.machine.specs.declared.holding.Entry.{Entry}
 use Rattle.machine.specs.Machines.{Machine, home, oneMore, withCount, withResponses, askMemory}
-use Rattle.machine.specs.Responses.{close, passOn, advance, takeResponse}
+use Rattle.machine.specs.Responses.{close, advance, takeResponse}
 use Rattle.machine.proofs.Updates.{update, update₂, update-each, update₂-each, update-here, update-there}
 use Rattle.machine.proofs.Keys.{taken-other, taken-one, kept-none, kept-push-no, kept-push-yes}
 use Rattle.machine.proofs.Weights.{weigh, weigh-taken, weigh-push}
@@ -87,6 +87,8 @@ answer-open (Some h) c e z r m ok = (h, refl)
 
 module _ (m : Machine) (x : Added) (sh : Matches m x) (inv : Invariant (ghostOf m x)) (owed : Owed m) (i : ℕ) (r : Response)
     (e : nth (m .responses) i ≡ Some r) (low : home m (responseBlock r) < 16) (small : m .count (home m (responseBlock r)) ≤ 1000) where
+  abbrev g : Sizes
+  g = m .geometry
   abbrev s : ℕ
   s = home m (responseBlock r)
   abbrev fewer : ℕ → ℕ
@@ -98,47 +100,47 @@ module _ (m : Machine) (x : Added) (sh : Matches m x) (inv : Invariant (ghostOf 
     request = x .request; pending = x .pending; latest = x .latest }
 
   -- it is its mailbox's mail
-  there : (x .mailbox s (responseCache r) .mail ≡ From r) × (kept-by (fromMailbox (m .geometry) s (responseCache r)) (without (m .responses) i) ≡ [])
-      × (kept-by (toMailbox (m .geometry) s (responseCache r)) (m .commands) ≡ [])
+  there : (x .mailbox s (responseCache r) .mail ≡ From r) × (kept-by (fromMailbox g s (responseCache r)) (without (m .responses) i) ≡ [])
+      × (kept-by (toMailbox g s (responseCache r)) (m .commands) ≡ [])
   there =
       let c : ℕ = responseCache r in
-      let q = only-right To From (kept-by (toMailbox (m .geometry) s c) (m .commands)) (fromMailbox (m .geometry) s c) (m .responses) i r
+      let q = only-right To From (kept-by (toMailbox g s c) (m .commands)) (fromMailbox g s c) (m .responses) i r
             (mailSlot (x .mailbox s c .mail)) e (and-from (eqb s s) (eqb c c) (eq-eqb s s refl) (eq-eqb c c refl)) (sh .mails s c)
             (slot-short (x .mailbox s c .mail)) in
       (slot-from (x .mailbox s c .mail) r (q .0), q .1, q .2)
 
   taken-mails : (t d : ℕ)
-      → map To (kept-by (toMailbox (m .geometry) t d) (m .commands)) ++ map From (kept-by (fromMailbox (m .geometry) t d) (without (m .responses) i))
+      → map To (kept-by (toMailbox g t d) (m .commands)) ++ map From (kept-by (fromMailbox g t d) (without (m .responses) i))
       ≡ mailSlot (afterTaken .mailbox t d .mail)
   taken-mails = update₂-each
-      (λ t d z. map To (kept-by (toMailbox (m .geometry) t d) (m .commands)) ++ map From (kept-by (fromMailbox (m .geometry) t d) (without (m .responses) i))
+      (λ t d z. map To (kept-by (toMailbox g t d) (m .commands)) ++ map From (kept-by (fromMailbox g t d) (without (m .responses) i))
         ≡ mailSlot (z .mail)) (x .mailbox) s (responseCache r) (emptied (x .mailbox s (responseCache r)))
       (rw (there .1, there .2) refl)
-      (λ t d a. rw (taken-other (fromMailbox (m .geometry) t d) (m .responses) i r e (other-key s (responseCache r) t d a)) (sh .mails t d))
+      (λ t d a. rw (taken-other (fromMailbox g t d) (m .responses) i r e (other-key s (responseCache r) t d a)) (sh .mails t d))
 
-  taken-weights : (t : ℕ) → fewer t ≡ weigh (commandWeight (m .geometry) t) (m .commands) + (weigh (responseWeight (m .geometry) t) (without (m .responses) i)
-      + (weigh (memoryWeight (m .geometry) t) (m .memoryCommands) + ackOwed (m .serving t)))
-  taken-weights = update-each (λ t a. a ≡ weigh (commandWeight (m .geometry) t) (m .commands)
-        + (weigh (responseWeight (m .geometry) t) (without (m .responses) i) + (weigh (memoryWeight (m .geometry) t) (m .memoryCommands) + ackOwed (m .serving t))))
+  taken-weights : (t : ℕ) → fewer t ≡ weigh (commandWeight g t) (m .commands) + (weigh (responseWeight g t) (without (m .responses) i)
+      + (weigh (memoryWeight g t) (m .memoryCommands) + ackOwed (m .serving t)))
+  taken-weights = update-each (λ t a. a ≡ weigh (commandWeight g t) (m .commands)
+        + (weigh (responseWeight g t) (without (m .responses) i) + (weigh (memoryWeight g t) (m .memoryCommands) + ackOwed (m .serving t))))
       (m .count) s (m .count s - 1)
-      (let u = rw (eq-eqb s s refl) at (weigh-taken (responseWeight (m .geometry) s) (m .responses) i r e) in let v = sh .weights s in omega arith)
-      (λ t k. let u = rw (ne-eqb s t (λ z. k (sym z))) at (weigh-taken (responseWeight (m .geometry) t) (m .responses) i r e) in
+      (let u = rw (eq-eqb s s refl) at (weigh-taken (responseWeight g s) (m .responses) i r e) in let v = sh .weights s in omega arith)
+      (λ t k. let u = rw (ne-eqb s t (λ z. k (sym z))) at (weigh-taken (responseWeight g t) (m .responses) i r e) in
         let v = sh .weights t in omega arith)
 
   taken-left : (t : ℕ) → (t ≡ s → ⊥)
-      → Left (m .serving t) (weigh (commandOne (m .geometry) t) (m .commands) + weigh (responseWeight (m .geometry) t) (without (m .responses) i))
+      → Left (m .serving t) (weigh (commandOne g t) (m .commands) + weigh (responseWeight g t) (without (m .responses) i))
   taken-left t k =
-      let u = rw (ne-eqb s t (λ z. k (sym z))) at (weigh-taken (responseWeight (m .geometry) t) (m .responses) i r e) in
-      let q : weigh (commandOne (m .geometry) t) (m .commands) + weigh (responseWeight (m .geometry) t) (m .responses)
-            ≡ weigh (commandOne (m .geometry) t) (m .commands) + weigh (responseWeight (m .geometry) t) (without (m .responses) i) = omega arith in
+      let u = rw (ne-eqb s t (λ z. k (sym z))) at (weigh-taken (responseWeight g t) (m .responses) i r e) in
+      let q : weigh (commandOne g t) (m .commands) + weigh (responseWeight g t) (m .responses)
+            ≡ weigh (commandOne g t) (m .commands) + weigh (responseWeight g t) (without (m .responses) i) = omega arith in
       subst (Left (m .serving t)) q (sh .left t)
 
   left-here : Left (m .serving s)
-      (suc (weigh (commandOne (m .geometry) s) (m .commands) + weigh (responseWeight (m .geometry) s) (without (m .responses) i)))
+      (suc (weigh (commandOne g s) (m .commands) + weigh (responseWeight g s) (without (m .responses) i)))
   left-here =
-      let u = rw (eq-eqb s s refl) at (weigh-taken (responseWeight (m .geometry) s) (m .responses) i r e) in
-      let q : weigh (commandOne (m .geometry) s) (m .commands) + weigh (responseWeight (m .geometry) s) (m .responses)
-            ≡ suc (weigh (commandOne (m .geometry) s) (m .commands) + weigh (responseWeight (m .geometry) s) (without (m .responses) i)) = omega arith in
+      let u = rw (eq-eqb s s refl) at (weigh-taken (responseWeight g s) (m .responses) i r e) in
+      let q : weigh (commandOne g s) (m .commands) + weigh (responseWeight g s) (m .responses)
+            ≡ suc (weigh (commandOne g s) (m .commands) + weigh (responseWeight g s) (without (m .responses) i)) = omega arith in
       subst (Left (m .serving s)) q (sh .left s)
 
   opened : (k : Progress) × (x .progress s ≡ Some k)
@@ -183,10 +185,10 @@ module _ (m : Machine) (x : Added) (sh : Matches m x) (inv : Invariant (ghostOf 
             (rw (kept-push-yes (atBlock b) (m .memoryCommands) k (eq-eqb b b refl), slot .2, slot .1) refl)
             (λ a ne. rw (kept-push-no (atBlock a) (m .memoryCommands) k (ne-eqb b a (λ z. ne (sym z))),
               taken-other (writesBack a) (m .responses) i r e (wet a ∙ ne-eqb b a (λ z. ne (sym z)))) (sh .pendings a));
-        weights = update-each (λ t a. a ≡ weigh (commandWeight (m .geometry) t) (m .commands) + (weigh (responseWeight (m .geometry) t) (without (m .responses) i)
-              + (weigh (memoryWeight (m .geometry) t) (m .memoryCommands ++ k ∷ []) + ackOwed (m .serving t)))) fewer s (fewer s + 1)
-            (let u = rw (eq-eqb s s refl) at (weigh-push (memoryWeight (m .geometry) s) (m .memoryCommands) k) in let v = taken-weights s in omega arith)
-            (λ t ne. let u = rw (ne-eqb s t (λ z. ne (sym z))) at (weigh-push (memoryWeight (m .geometry) t) (m .memoryCommands) k) in
+        weights = update-each (λ t a. a ≡ weigh (commandWeight g t) (m .commands) + (weigh (responseWeight g t) (without (m .responses) i)
+              + (weigh (memoryWeight g t) (m .memoryCommands ++ k ∷ []) + ackOwed (m .serving t)))) fewer s (fewer s + 1)
+            (let u = rw (eq-eqb s s refl) at (weigh-push (memoryWeight g s) (m .memoryCommands) k) in let v = taken-weights s in omega arith)
+            (λ t ne. let u = rw (ne-eqb s t (λ z. ne (sym z))) at (weigh-push (memoryWeight g t) (m .memoryCommands) k) in
               let v = taken-weights t in omega arith);
         left = taken-left }
 

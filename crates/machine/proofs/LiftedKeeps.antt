@@ -2,7 +2,7 @@
 use mathlib.Core.Path.{_≡_, refl, sym, _∙_, ap, subst}
 use mathlib.Core.Bool.{Bool, true, false, cond}
 use mathlib.Core.List.{List, _∷_}
-use Prim.Native.Nat.{ℕ, _<_}
+use Prim.Native.Nat.{ℕ}
 use Rattle.bedrock.specs.declared.words.Words.{Words}
 use Rattle.machine.specs.Machines.{Machine}
 use Rattle.machine.specs.Outcomes.{movedOn, Outcome, refuse, moveOn}

@@ -1,6 +1,6 @@
 -- What the machine decides about a request is a plan.
 use mathlib.Core.Path.{_≡_, refl, sym, _∙_, ap, subst}
-use mathlib.Core.Bool.{Bool, true, false, cond, _&&_}
+use mathlib.Core.Bool.{Bool, true, false, cond}
 use mathlib.Core.Logic.{_⊎_, inl, inr}
 use Prim.Native.Nat.{ℕ, _<_}
 use lib.Dec.{eqb}
@@ -8,18 +8,17 @@ use Rattle.std.specs.declared.option.Option.{Option}
 use Rattle.std.specs.declared.option.Option.the-variants.{Some, None}
 use Rattle.std.proofs.shelf.Tests.{false≢true, eqb-true, eqb-false, and-from, and-parts}
 use Rattle.protocols.specs.declared.state.State.{State}
-use Rattle.protocols.specs.declared.state.State.the-variants.{I, S, O, F}
+use Rattle.protocols.specs.declared.state.State.the-variants.{S, O, F}
 use Rattle.protocols.specs.declared.row.Row.{Row}
 use Rattle.protocols.specs.States.{held, owning, writable, dirty}
 use Rattle.protocols.specs.Rows.{writeRow}
 use Rattle.messages.specs.declared.request.Request.{Request}
 use Rattle.machine.specs.declared.holding.Entry.{Entry}
-use Rattle.machine.specs.declared.transaction.Source.{Source}
-use Rattle.machine.specs.declared.transaction.Source.the-variants.{Memory, OwnCopy, Owner}
+use Rattle.machine.specs.declared.transaction.Source.the-variants.{Owner}
 use Rattle.machine.specs.Tables.{lowest}
 use Rattle.machine.specs.Holdings.{entryIn, isWrite}
 use Rattle.machine.specs.Machines.{Machine, home}
-use Rattle.machine.specs.Directory.{shownWay, shownState, sharing, owner, unowned, stateBy, view, orZero, found}
+use Rattle.machine.specs.Directory.{shownWay, shownState, sharing, owner, unowned, stateBy, orZero, found}
 use Rattle.machine.specs.Acceptance.{rowFor, upgrading, unownedSource, sourceBy, jobFor}
 use Rattle.machine.proofs.Ranges.{Bounds, cache-below, way-below}
 use Rattle.machine.proofs.RowLaws.{OwnedRow, LawfulRow}

@@ -27,7 +27,7 @@ use Rattle.machine.specs.Acceptance.{upgrading, evict, dismiss, firstRound}
 use Rattle.machine.proofs.Weights.{weigh}
 use Rattle.machine.proofs.Ghost.{Mail, Nothing, To}
 use Rattle.machine.proofs.Matches.{mailSlot, toMailbox, commandWeight, commandOne}
-use Rattle.machine.proofs.ShownEntries.{EntriesInRange, ShownAt, shown-held}
+use Rattle.machine.proofs.ShownEntries.{EntriesInRange, shown-held}
 
 -- ---- commands of one set, each with one answer
 
