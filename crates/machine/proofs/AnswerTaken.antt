@@ -50,7 +50,8 @@ quiet-clearing g inv s j Sent k h quiet f = grind arith
 quiet-clearing g inv s j Filled k h quiet f = grind arith
 
 -- The answer has been taken from machine n, and what is left of the set's round still counts it.
-module _ (n : Machine) (y : Added) (s : ℕ) (h : Progress) (sh : AlmostMatches n y s) (inv : Invariant (ghostOf n y)) (open-here : y .progress s ≡ Some h)
+module _ (n : Machine) (y : Added) (s : ℕ) (h : Progress) (sh : AlmostMatches n y s) (inv : Invariant (ghostOf n y))
+    (open-here : y .progress s ≡ Some h)
     (left : Left (n .serving s) (suc (weigh (commandOne (n .geometry) s) (n .commands) + weigh (responseWeight (n .geometry) s) (n .responses))))
     (owed : (t : ℕ) → (t ≡ s → ⊥) → n .count t ≡ 0 → n .serving t ≡ None) (low : s < 16) (small : n .count s ≤ 1000) where
   abbrev g : Sizes
@@ -62,7 +63,8 @@ module _ (n : Machine) (y : Added) (s : ℕ) (h : Progress) (sh : AlmostMatches 
   begins : (j : Job) → n .serving s ≡ Some (record { job = j; round = One 1 }) → Lifted n y (close (begin n j) s)
   begins j e = lifted-after n y (begin n j) (afterRoundOne y (home n (j .block)) j) (close (begin n j) s) refl (record { kept = f .frame .kept;
         geometry = f .frame .geometry; rows = f .frame .rows; turn = f .frame .turn })
-      (close-lifts (begin n j) (afterRoundOne y (home n (j .block)) j) (b .0) (b .1) s (atStage Asked j) (rw here (update-here (y .progress) s (Some (atStage Asked j)))) low
+      (close-lifts (begin n j) (afterRoundOne y (home n (j .block)) j) (b .0) (b .1) s (atStage Asked j)
+          (rw here (update-here (y .progress) s (Some (atStage Asked j)))) low
         (λ t ne o. update-there (ask n j (j .source) .serving) (home n (j .block)) (Some (record { job = j; round = Two })) t (λ q. ne (q ∙ here))
           ∙ ap (λ h. h t) (f .serving) ∙ owed t ne (sym (f .counts t (λ q. ne (q ∙ here))) ∙ o)))
     where
@@ -110,7 +112,8 @@ module _ (n : Machine) (y : Added) (s : ℕ) (h : Progress) (sh : AlmostMatches 
       here : home n (j .block) ≡ s
       here = here-is j (One 1) e
   goes-on j (One (suc (suc l))) e = subst (λ k. Lifted n y (close k s)) (sym (serving-is n s (Some now) low))
-      (lifted-after n y (setServing n s (Some now)) y (close (setServing n s (Some now)) s) refl (record { kept = refl; geometry = refl; rows = refl; turn = refl })
+      (lifted-after n y (setServing n s (Some now)) y (close (setServing n s (Some now)) s) refl
+          (record { kept = refl; geometry = refl; rows = refl; turn = refl })
       (close-lifts (setServing n s (Some now)) y (record {
           serving = update-each (λ t a. SameProgress a (y .progress t)) (n .serving) s (Some now)
               (rw open-here (st .0, in-round-one (h .stage) (suc (suc l)) (suc l) (st .1))) (λ t _. sh .serving t);

@@ -52,12 +52,14 @@ module _ (content : ℕ → Words) (m : Machine) (past : List Event) (x : Added)
       asking = withRequests m (without (m .requests) i)
       after : Machine
       after = beginTwo (recordJob asking (jobFor m q) 0) (jobFor m q)
-  accepts i q e free (k ∷ ks) fi = unless-refused content m past x r (delivers 0 i) 14 (moveOn after) (ltb 128 (length (m .commands) + suc (length ks)))
+  accepts i q e free (k ∷ ks) fi = unless-refused content m past x r (delivers 0 i) 14 (moveOn after)
+      (ltb 128 (length (m .commands) + suc (length ks)))
       (λ t. lifted-keeps content m past x r (delivers 0 i) (λ _. refl) after
         (accept-sends m x (r .matches) (r .inv) (r .owed) lawful i q e free (r .bounds) k ks fi)
         (record { responses = r .rooms .responses; memoryCommands = r .rooms .memoryCommands;
           requests = let h = taken-length (m .requests) i q e in let l = r .rooms .requests in omega arith;
-          commands = let h = append-length (m .commands) (k ∷ ks) in let l = ltb-false 128 (length (m .commands) + suc (length ks)) t in omega arith }))
+          commands = let h = append-length (m .commands) (k ∷ ks) in
+              let l = ltb-false 128 (length (m .commands) + suc (length ks)) t in omega arith }))
     where
       entered : Machine
       entered = recordJob (withRequests m (without (m .requests) i)) (jobFor m q) (suc (length ks))

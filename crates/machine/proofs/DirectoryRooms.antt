@@ -40,7 +40,8 @@ close-rooms m s r = go (eqb (m .count s) 0)
 
 fetch-rooms : (m : Machine) (j : Job) (z : Source) → RoomFor m (commandsSent (Some z)) (memoryReads (Some z)) → Rooms (fetch m j z)
 fetch-rooms m j Memory r = record { requests = r .requests; responses = r .responses; commands = let l = r .commands in omega arith;
-    memoryCommands = let l = r .memoryCommands in let h = push-length (m .memoryCommands) (Read (j .block) (j .requestor) (j .way) (j .next)) in omega arith }
+    memoryCommands = let l = r .memoryCommands in let h = push-length (m .memoryCommands) (Read (j .block) (j .requestor) (j .way) (j .next)) in
+        omega arith }
 fetch-rooms m j OwnCopy r = record { requests = r .requests; responses = r .responses; memoryCommands = let l = r .memoryCommands in omega arith;
     commands = let l = r .commands in let h = push-length (m .commands) (SetStateWakeup (j .requestor) (j .block) (j .way)) in omega arith }
 fetch-rooms m j (Owner o p shown keeps writeback) r = record { requests = r .requests; responses = r .responses;
@@ -68,7 +69,8 @@ none-more : (m : Machine) → RoomFor m 0 0 → Rooms m
 none-more m r = record { requests = r .requests; responses = r .responses; commands = let l = r .commands in omega arith;
     memoryCommands = let l = r .memoryCommands in omega arith }
 
-pub advance-rooms : (m : Machine) (s : ℕ) (t : Option Transaction) → RoomFor m (commandsSent (starts t)) (memoryReads (starts t)) → Rooms (advance m s t)
+pub advance-rooms : (m : Machine) (s : ℕ) (t : Option Transaction) → RoomFor m (commandsSent (starts t)) (memoryReads (starts t))
+    → Rooms (advance m s t)
 advance-rooms m s None r = none-more m r
 advance-rooms m s (Some t) r = go (t .job) (t .round) r
   where

@@ -51,7 +51,8 @@ is-S F h = grind arith
 pub record OwnPart (m : Machine) (x : Added) (q : Request) (own : List Command) : Type 0 where
   pub stage : Stage
   pub roundOne : (stage ≡ Evicting) ⊎ (stage ≡ Clearing)
-  pub mailbox : (f : ℕ → Entry) → AsRequestor stage (jobFor m q) f (record { known = x .mailbox (home m (q .block)) (q .cache) .known; mail = mailOf own })
+  pub mailbox : (f : ℕ → Entry) → AsRequestor stage (jobFor m q) f (record { known = x .mailbox (home m (q .block)) (q .cache) .known;
+      mail = mailOf own })
   pub noEviction : own ≡ [] → stage ≡ Clearing
 
 pub own-mailbox : (m : Machine) (x : Added) (q : Request) (p : OwnPart m x q (ownCommand m q)) (f : ℕ → Entry)
@@ -78,7 +79,8 @@ module _ (m : Machine) (x : Added) (inv : Invariant (ghostOf m x)) (lawful : (st
       is : v ≡ known (q .way)
       is = known-is m x inv lawful q idle asked (q .cache) (q .way)
       go : (t : Bool) → upgrading m q ≡ t → (h : Bool) → held (v .state) ≡ h → (d : Bool) → mayBeDirty (v .state) ≡ d
-          → OwnPart m x q (cond t [] (cond h (cond d (SetStateWriteback (q .cache) (v .block) (q .way) ∷ []) (Invalidate (q .cache) (v .block) (q .way) ∷ [])) []))
+          → OwnPart m x q (cond t [] (cond h (cond d (SetStateWriteback (q .cache) (v .block) (q .way) ∷ [])
+              (Invalidate (q .cache) (v .block) (q .way) ∷ [])) []))
       go true u h hi d di = record { stage = Clearing; roundOne = inr refl; mailbox = λ f. inl (before, inl refl); noEviction = λ _. refl }
         where
           before : BeforeFill j (known (q .way))
@@ -88,15 +90,15 @@ module _ (m : Machine) (x : Added) (inv : Invariant (ghostOf m x)) (lawful : (st
       go false u false hi d di = record { stage = Clearing; roundOne = inr refl; mailbox = λ f. inl (before, inl refl); noEviction = λ _. refl }
         where
           before : BeforeFill j (known (q .way))
-          before = subst (λ z. When z ((known (q .way) .block ≡ q .block) × (readOnly (known (q .way) .state) ≡ true)) (known (q .way) ≡ noEntry)) (sym u)
-              (sym is ∙ inv .blanks s (q .cache) (q .way) hi)
+          before = subst (λ z. When z ((known (q .way) .block ≡ q .block) × (readOnly (known (q .way) .state) ≡ true)) (known (q .way) ≡ noEntry))
+              (sym u) (sym is ∙ inv .blanks s (q .cache) (q .way) hi)
       go false u true hi true di = record { stage = Evicting; roundOne = inl refl;
           mailbox = λ f. record { noUpgrade = u; block = v .block; other = λ k. plan .notShown u (q .way) hi k; shown = ap (λ a. a .block) (sym is);
             state = ap (λ a. mayBeDirty (a .state)) (sym is) ∙ di; out = refl };
           noEviction = λ k. cc }
       go false u true hi false di = record { stage = Clearing; roundOne = inr refl;
-          mailbox = λ f. inr (record { noUpgrade = u; block = v .block; other = λ k. plan .notShown u (q .way) hi k; shown = ap (λ a. a .block) (sym is);
-            state = ap (λ a. surelyClean (a .state)) (sym is) ∙ clean-is (v .state) hi di; out = refl });
+          mailbox = λ f. inr (record { noUpgrade = u; block = v .block; other = λ k. plan .notShown u (q .way) hi k;
+              shown = ap (λ a. a .block) (sym is); state = ap (λ a. surelyClean (a .state)) (sym is) ∙ clean-is (v .state) hi di; out = refl });
           noEviction = λ _. refl }
 
   -- the others' part
@@ -107,7 +109,8 @@ module _ (m : Machine) (x : Added) (inv : Invariant (ghostOf m x)) (lawful : (st
           → Dismisses (m .entry s) j c (mailOf (cond t (cond (u && true) (Invalidate c (q .block) (orZero (shownWay m c (q .block))) ∷ []) []) []))
           ⊎ Leaves (m .entry s) j c (mailOf (cond t (cond (u && true) (Invalidate c (q .block) (orZero (shownWay m c (q .block))) ∷ []) []) []))
       go true w true k = inl (record { place = orZero (shownWay m c (q .block)); writing = w;
-          shown = ap (λ z. m .entry s c (orZero z)) (it .shown) ∙ shared-entry (m .entry s c (it .way)) (sym (it .state) ∙ st) (it .block); out = refl })
+          shown = ap (λ z. m .entry s c (orZero z)) (it .shown) ∙ shared-entry (m .entry s c (it .way)) (sym (it .state) ∙ st) (it .block);
+              out = refl })
         where
           st : shownState m c (q .block) ≡ S
           st = is-S (shownState m c (q .block)) k

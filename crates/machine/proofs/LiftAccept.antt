@@ -73,7 +73,8 @@ one-in-round st n (inl e) = rw e (n, refl)
 one-in-round st n (inr e) = rw e (n, refl)
 
 -- Request q is at place i, and the count of its set is 0.
-module _ (m : Machine) (x : Added) (sh : Matches m x) (inv : Invariant (ghostOf m x)) (owed : Owed m) (lawful : (st : State) → LawfulRow st (m .rows st))
+module _ (m : Machine) (x : Added) (sh : Matches m x) (inv : Invariant (ghostOf m x)) (owed : Owed m)
+    (lawful : (st : State) → LawfulRow st (m .rows st))
     (i : ℕ) (q : Request) (e : nth (m .requests) i ≡ Some q) (free : m .count (home m (q .block)) ≡ 0) where
   abbrev g : Sizes
   g = m .geometry
@@ -138,7 +139,8 @@ module _ (m : Machine) (x : Added) (sh : Matches m x) (inv : Invariant (ghostOf 
   almost fr cs fi ci = record {
       serving = update-both (λ t a b. SameProgress a b) (m .serving) (x .progress) s (Some (record { job = j; round = One (length fr) }))
           (Some (atStage (own .stage) j)) (refl, one-in-round (own .stage) (length fr) (own .roundOne)) (λ t _. sh .serving t);
-      requests = update-each (λ c z. kept-by (λ (a : Request). eqb (a .cache) c) (without (m .requests) i) ≡ requestSlot z) (x .request) (q .cache) None
+      requests = update-each (λ c z. kept-by (λ (a : Request). eqb (a .cache) c) (without (m .requests) i) ≡ requestSlot z) (x .request)
+          (q .cache) None
           (took-request m x sh i q e .1)
           (λ c n. taken-other (λ (a : Request). eqb (a .cache) c) (m .requests) i q e (ne-eqb (q .cache) c (λ k. n (sym k))) ∙ sh .requests c);
       mails = update-each (λ t f. (c : ℕ) → map To (kept-by (toMailbox g t c) cs)
@@ -174,7 +176,8 @@ module _ (m : Machine) (x : Added) (sh : Matches m x) (inv : Invariant (ghostOf 
   sends k ks fi = record { added = afterAccept; matches = all-match (accepted (k ∷ ks) (m .commands ++ k ∷ ks)) afterAccept s
         (almost (k ∷ ks) (m .commands ++ k ∷ ks) fi refl) here;
       invariant = invariant-accepted (k ∷ ks) (m .commands ++ k ∷ ks);
-      owed = update-both (λ t a z. a ≡ 0 → z ≡ None) (m .count) (m .serving) s (1 + length (k ∷ ks)) (Some now) (λ z. absurd (some-owed z)) (λ t _. owed t);
+      owed = update-both (λ t a z. a ≡ 0 → z ≡ None) (m .count) (m .serving) s (1 + length (k ∷ ks)) (Some now) (λ z. absurd (some-owed z))
+          (λ t _. owed t);
       latest = refl; kept = refl; geometry = refl; rows = refl; turn = refl }
     where
       now : Transaction
@@ -223,7 +226,8 @@ module _ (m : Machine) (x : Added) (sh : Matches m x) (inv : Invariant (ghostOf 
 
     pub accept-sends : (k : Command) (ks : List Command) → firstRound m q ≡ k ∷ ks
         → Lifted m x (withCommands (recordJob asking j (length (k ∷ ks))) (recordJob asking j (length (k ∷ ks)) .commands ++ k ∷ ks))
-    accept-sends k ks fi = subst (λ (n : Machine). Lifted m x (withCommands n (n .commands ++ k ∷ ks))) (sym (entered (length (k ∷ ks)))) (sends k ks fi)
+    accept-sends k ks fi = subst (λ (n : Machine). Lifted m x (withCommands n (n .commands ++ k ∷ ks))) (sym (entered (length (k ∷ ks))))
+        (sends k ks fi)
 
     pub accept-begins : firstRound m q ≡ [] → Lifted m x (beginTwo (recordJob asking j 0) j)
     accept-begins fi = subst (Lifted m x) (sym (ap (λ (n : Machine). beginTwo n j) (entered 0)

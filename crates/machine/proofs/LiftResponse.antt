@@ -155,7 +155,8 @@ module _ (m : Machine) (x : Added) (sh : Matches m x) (inv : Invariant (ghostOf 
 
   -- an answer without words
   plain : ((b : ℕ) → writesBack b r ≡ false) → Lifted m x (close (advance taken s (m .serving s)) s)
-  plain dry = lifted-after m x taken afterTaken (close (advance taken s (m .serving s)) s) refl (record { kept = refl; geometry = refl; rows = refl; turn = refl })
+  plain dry = lifted-after m x taken afterTaken (close (advance taken s (m .serving s)) s) refl
+      (record { kept = refl; geometry = refl; rows = refl; turn = refl })
       (advance-lifts taken afterTaken s (opened .0) (record { serving = sh .serving; requests = sh .requests; mails = taken-mails;
           pendings = λ b. rw (taken-other (writesBack b) (m .responses) i r e (dry b)) (sh .pendings b); weights = taken-weights; left = taken-left })
         invariant-taken (opened .1) left-here owed-taken low (rw (update-here (m .count) s (m .count s - 1)) (omega arith)) (m .serving s) refl)
@@ -180,7 +181,8 @@ module _ (m : Machine) (x : Added) (sh : Matches m x) (inv : Invariant (ghostOf 
     almost : AlmostMatches passed afterPassed s
     almost = record { serving = sh .serving; requests = sh .requests; mails = taken-mails;
         pendings = update-each
-            (λ a z. map pendingOf (kept-by (atBlock a) (m .memoryCommands ++ k ∷ [])) ++ map pendingIn (kept-by (writesBack a) (without (m .responses) i))
+            (λ a z. map pendingOf (kept-by (atBlock a) (m .memoryCommands ++ k ∷ []))
+                ++ map pendingIn (kept-by (writesBack a) (without (m .responses) i))
               ≡ pendingSlot z) (x .pending) b (Waiting ws)
             (rw (kept-push-yes (atBlock b) (m .memoryCommands) k (eq-eqb b b refl), slot .2, slot .1) refl)
             (λ a ne. rw (kept-push-no (atBlock a) (m .memoryCommands) k (ne-eqb b a (λ z. ne (sym z))),
@@ -194,7 +196,8 @@ module _ (m : Machine) (x : Added) (sh : Matches m x) (inv : Invariant (ghostOf 
 
     invariant-passed : Invariant (ghostOf m afterPassed)
     invariant-passed = subst (λ (blocks : ℕ → BlockAtMemory). Invariant (record { geometry = m .geometry; entry = m .entry; way = m .way;
-            mailbox = afterTaken .mailbox; progress = x .progress; waiter = λ c. record { kept = m .kept c; request = x .request c }; atMemory = blocks }))
+            mailbox = afterTaken .mailbox; progress = x .progress; waiter = λ c. record { kept = m .kept c; request = x .request c };
+                atMemory = blocks }))
         (block-pending (m .memory) (x .pending) (x .latest) b (Waiting ws))
         (pass-on-keeps (ghostOf m afterTaken) invariant-taken b ws (coming-is (x .pending b) ws (slot .0 ∙ ap (λ p. p ∷ []) brings)))
 
@@ -208,24 +211,29 @@ module _ (m : Machine) (x : Added) (sh : Matches m x) (inv : Invariant (ghostOf 
     -- the machine's own tables
     passed-is : withCount (askMemory (withCount (withResponses m (without (m .responses) i)) s (m .count s - 1)) k) s
         (oneMore (withCount (withResponses m (without (m .responses) i)) s (m .count s - 1) .count s)) ≡ passed
-    passed-is = ap (λ (n : Machine). withCount (askMemory n k) s (oneMore (n .count s))) (count-is (withResponses m (without (m .responses) i)) s (m .count s - 1) low)
+    passed-is = ap (λ (n : Machine). withCount (askMemory n k) s (oneMore (n .count s)))
+        (count-is (withResponses m (without (m .responses) i)) s (m .count s - 1) low)
         ∙ count-is (askMemory taken k) s (oneMore (fewer s)) low
         ∙ ap (setCount (askMemory taken k) s) (one-more-is (fewer s) (rw (update-here (m .count) s (m .count s - 1)) (omega arith)))
 
   taken-is : withCount (withResponses m (without (m .responses) i)) s (m .count s - 1) ≡ taken
   taken-is = count-is (withResponses m (without (m .responses) i)) s (m .count s - 1) low
 
-pub response-lifts : (m : Machine) (x : Added) → Matches m x → Invariant (ghostOf m x) → Owed m → (i : ℕ) (r : Response) → nth (m .responses) i ≡ Some r
+pub response-lifts : (m : Machine) (x : Added) → Matches m x → Invariant (ghostOf m x) → Owed m → (i : ℕ) (r : Response)
+    → nth (m .responses) i ≡ Some r
     → home m (responseBlock r) < 16 → m .count (home m (responseBlock r)) ≤ 1000
     → Lifted m x (close (advance (takeResponse m i r) (home m (responseBlock r)) (m .serving (home m (responseBlock r)))) (home m (responseBlock r)))
 response-lifts m x sh inv owed i (InvalidateAck c b) e low small =
-    subst (λ n. Lifted m x (close (advance n (home m b) (m .serving (home m b))) (home m b))) (sym (taken-is m x sh inv owed i (InvalidateAck c b) e low small))
+    subst (λ n. Lifted m x (close (advance n (home m b) (m .serving (home m b))) (home m b)))
+        (sym (taken-is m x sh inv owed i (InvalidateAck c b) e low small))
     (plain m x sh inv owed i (InvalidateAck c b) e low small (λ _. refl))
 response-lifts m x sh inv owed i (CoherenceAck c b) e low small =
-    subst (λ n. Lifted m x (close (advance n (home m b) (m .serving (home m b))) (home m b))) (sym (taken-is m x sh inv owed i (CoherenceAck c b) e low small))
+    subst (λ n. Lifted m x (close (advance n (home m b) (m .serving (home m b))) (home m b)))
+        (sym (taken-is m x sh inv owed i (CoherenceAck c b) e low small))
     (plain m x sh inv owed i (CoherenceAck c b) e low small (λ _. refl))
 response-lifts m x sh inv owed i (NullWriteback c b) e low small =
-    subst (λ n. Lifted m x (close (advance n (home m b) (m .serving (home m b))) (home m b))) (sym (taken-is m x sh inv owed i (NullWriteback c b) e low small))
+    subst (λ n. Lifted m x (close (advance n (home m b) (m .serving (home m b))) (home m b)))
+        (sym (taken-is m x sh inv owed i (NullWriteback c b) e low small))
     (plain m x sh inv owed i (NullWriteback c b) e low small (λ _. refl))
 response-lifts m x sh inv owed i (Writeback c b ws) e low small =
     subst (λ n. Lifted m x (close (advance n (home m b) (m .serving (home m b))) (home m b)))

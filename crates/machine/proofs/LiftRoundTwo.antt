@@ -39,7 +39,8 @@ use Rattle.machine.proofs.AlmostMatches.{AlmostMatches, sent-here, sent-there,
 abbrev mailFrom : Job → Source → ℕ → Mail
 mailFrom j Memory c = Nothing
 mailFrom j OwnCopy c = cond (eqb c (j .requestor)) (To (SetStateWakeup (j .requestor) (j .block) (j .way))) Nothing
-mailFrom j (Owner o p shown keeps writeback) c = cond (eqb c o) (To (Transfer o (j .block) p (j .requestor) (j .way) keeps (j .next) writeback)) Nothing
+mailFrom j (Owner o p shown keeps writeback) c =
+    cond (eqb c o) (To (Transfer o (j .block) p (j .requestor) (j .way) keeps (j .next) writeback)) Nothing
 
 asked-is : (j : Job) (f : ℕ → ℕ → Entry) (z : Source) → j .source ≡ z → GoodSource j f z → (c : ℕ) → askedMail j c (role j c) ≡ mailFrom j z c
 asked-is j f z i ok c = go (eqb c (j .requestor)) refl z i ok
@@ -59,8 +60,9 @@ asked-is j f z i ok c = go (eqb c (j .requestor)) refl z i ok
         at false q = refl
 
 abbrev pub afterRoundOne : Added → ℕ → Job → Added
-afterRoundOne x s j = record { mailbox = update (x .mailbox) s (λ c. askedMailbox j c (x .mailbox s c)); progress = update (x .progress) s (Some (atStage Asked j));
-  request = x .request; pending = update (x .pending) (j .block) (readFor j (j .source)); latest = x .latest }
+afterRoundOne x s j = record { mailbox = update (x .mailbox) s (λ c. askedMailbox j c (x .mailbox s c));
+    progress = update (x .progress) s (Some (atStage Asked j)); request = x .request;
+    pending = update (x .pending) (j .block) (readFor j (j .source)); latest = x .latest }
 
 -- the set is at Clearing, its round one has not been left, and no cache has mail
 module _ (m : Machine) (x : Added) (j : Job) (sh : AlmostMatches m x (home m (j .block))) (inv : Invariant (ghostOf m x))
@@ -82,7 +84,8 @@ module _ (m : Machine) (x : Added) (j : Job) (sh : AlmostMatches m x (home m (j 
   no-mail : (c : ℕ) → map To (kept-by (toMailbox g s c) (m .commands)) ++ map From (kept-by (fromMailbox g s c) (m .responses)) ≡ []
   no-mail c = rw (quiet c) at (sh .mails s c)
 
-  none-pending : map pendingOf (kept-by (atBlock (j .block)) (m .memoryCommands)) ++ map pendingIn (kept-by (writesBack (j .block)) (m .responses)) ≡ []
+  none-pending : map pendingOf (kept-by (atBlock (j .block)) (m .memoryCommands)) ++ map pendingIn (kept-by (writesBack (j .block)) (m .responses))
+      ≡ []
   none-pending = rw idle at (sh .pendings (j .block))
 
   same : (t : ℕ) → SameProgress (update (m .serving) s now t) (update (x .progress) s (Some (atStage Asked j)) t)
@@ -122,9 +125,11 @@ module _ (m : Machine) (x : Added) (j : Job) (sh : AlmostMatches m x (home m (j 
           ≡ mailSlot (f c .mail)) (x .mailbox) s (λ c. askedMailbox j c (x .mailbox s c))
           (λ c. rw (mail-is Memory i c) (no-mail c)) (λ t _. sh .mails t);
       pendings = update-each
-          (λ b z. map pendingOf (kept-by (atBlock b) (m .memoryCommands ++ k ∷ [])) ++ map pendingIn (kept-by (writesBack b) (m .responses)) ≡ pendingSlot z)
+          (λ b z. map pendingOf (kept-by (atBlock b) (m .memoryCommands ++ k ∷ [])) ++ map pendingIn (kept-by (writesBack b) (m .responses))
+              ≡ pendingSlot z)
           (x .pending) (j .block) (readFor j (j .source))
-          (let z = both-none pendingOf pendingIn (kept-by (atBlock (j .block)) (m .memoryCommands)) (kept-by (writesBack (j .block)) (m .responses)) none-pending in
+          (let z = both-none pendingOf pendingIn (kept-by (atBlock (j .block)) (m .memoryCommands))
+              (kept-by (writesBack (j .block)) (m .responses)) none-pending in
             rw (kept-push-yes (atBlock (j .block)) (m .memoryCommands) k (eq-eqb (j .block) (j .block) refl), z .0, z .1, i) refl)
           (λ b e. rw (kept-push-no (atBlock b) (m .memoryCommands) k (ne-eqb (j .block) b (λ q. e (sym q)))) (sh .pendings b));
       weights = update-both (λ t a z. a ≡ weigh (commandWeight g t) (m .commands)
@@ -178,7 +183,8 @@ module _ (m : Machine) (x : Added) (j : Job) (sh : AlmostMatches m x (home m (j 
       all = subst (λ (blocks : ℕ → BlockAtMemory). Invariant (record { geometry = m .geometry; entry = m .entry; way = m .way;
               mailbox = afterRoundOne x s j .mailbox; progress = afterRoundOne x s j .progress;
               waiter = λ c. record { kept = m .kept c; request = x .request c }; atMemory = blocks }))
-          (block-pending (m .memory) (x .pending) (x .latest) (j .block) (readFor j (j .source))) (round-two-keeps (ghostOf m x) inv s j clearing quiet)
+          (block-pending (m .memory) (x .pending) (x .latest) (j .block) (readFor j (j .source)))
+              (round-two-keeps (ghostOf m x) inv s j clearing quiet)
       go : (z : Source) → Invariant (ghostOf (setServing (ask m j z) s now) (afterRoundOne x s j))
       go Memory = all
       go OwnCopy = all

@@ -31,6 +31,7 @@ module _ (content : ℕ → Words) (m : Machine) (past : List Event) (x : Added)
       words = r .words; orders = r .orders; turns = r .turns }, tt)
 
   -- refused or not, by a test
-  pub unless-refused : (a : Call) (n : ℕ) (o : Outcome) (t : Bool) → (t ≡ false → Keeps content m past a o) → Keeps content m past a (cond t (refuse m n) o)
+  pub unless-refused : (a : Call) (n : ℕ) (o : Outcome) (t : Bool) → (t ≡ false → Keeps content m past a o)
+      → Keeps content m past a (cond t (refuse m n) o)
   unless-refused a n o true k = refused-keeps a n
   unless-refused a n o false k = k refl

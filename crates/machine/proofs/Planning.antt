@@ -110,7 +110,8 @@ module _ (m : Machine) (x : Added) (inv : Invariant (ghostOf m x)) (lawful : (st
   by-owner : (o : ℕ) → owner m (q .block) ≡ Some o → (o ≡ q .cache → ⊥)
       → OwnerPlan f (jobFor m q) o (orZero (shownWay m o (q .block))) (shownState m o (q .block)) (rowFor m q .owner) (rowFor m q .writeback)
   by-owner o e n = record { other = n; owned = owns o e; at = at-it; letsGo = lets (isWrite (q .access)) refl;
-      covered = covers (isWrite (q .access)) refl; pair = λ h. pairs (isWrite (q .access)) refl h; sole = λ w. sole w (writable (row .requestor)) refl }
+      covered = covers (isWrite (q .access)) refl; pair = λ h. pairs (isWrite (q .access)) refl h;
+          sole = λ w. sole w (writable (row .requestor)) refl }
     where
       it : ShownAt m o (q .block)
       it = shown-held m o (q .block) (owning-held (shownState m o (q .block)) (owns o e))
@@ -164,7 +165,8 @@ module _ (m : Machine) (x : Added) (inv : Invariant (ghostOf m x)) (lawful : (st
       copy : (z : Option ℕ) → shownWay m (q .cache) (q .block) ≡ z → found z ≡ true
           → (f (q .cache) (q .way) .block ≡ q .block) × (readOnly (f (q .cache) (q .way) .state) ≡ true)
       copy None e s = absurd (false≢true s)
-      copy (Some w) e s = let a = shown-entry m (q .cache) (q .block) w e in let p = placed w (a .0) (a .1) in (rw (p .0) at (a .1), rw (p .0) at (p .2))
+      copy (Some w) e s = let a = shown-entry m (q .cache) (q .block) w e in
+          let p = placed w (a .0) (a .1) in (rw (p .0) at (a .1), rw (p .0) at (p .2))
 
   -- another owner is a cache that there is, and so is its way
   pub owner-in-range : Bounds (m .geometry) → OwnerInRange (jobFor m q .source)

@@ -86,7 +86,8 @@ module _ (m : Machine) (r b : ℕ) where
   sent-key c d = go (sharing (shownState m c b) && not (eqb c r))
     where
       at : (t : Bool) → eqb c d ≡ t
-          → kept-by (toMailbox (m .geometry) (home m b) d) (Invalidate c b (orZero (shownWay m c b)) ∷ []) ≡ cond t (Invalidate c b (orZero (shownWay m c b)) ∷ []) []
+          → kept-by (toMailbox (m .geometry) (home m b) d) (Invalidate c b (orZero (shownWay m c b)) ∷ [])
+              ≡ cond t (Invalidate c b (orZero (shownWay m c b)) ∷ []) []
       at true e = rw (eq-eqb (home m b) (home m b) refl, e) refl
       at false e = rw (eq-eqb (home m b) (home m b) refl, e) refl
       flat : (t : Bool) → [] ≡ cond {A = List Command} t [] []
@@ -110,7 +111,8 @@ module _ (m : Machine) (r b : ℕ) where
     where
       none : d < 0 → ⊥
       none l = omega arith
-  dismiss-below (suc k) d l = kept-by-append (toMailbox (m .geometry) (home m b) d) (dismiss m r b k) (sentTo k) ∙ go (cases-eq k d) (dismiss-below k d)
+  dismiss-below (suc k) d l = kept-by-append (toMailbox (m .geometry) (home m b) d) (dismiss m r b k) (sentTo k)
+      ∙ go (cases-eq k d) (dismiss-below k d)
     where
       go : (k ≡ d) ⊎ (k ≡ d → ⊥) → (d < k → kept-by (toMailbox (m .geometry) (home m b) d) (dismiss m r b k) ≡ sentTo d)
           → kept-by (toMailbox (m .geometry) (home m b) d) (dismiss m r b k) ++ kept-by (toMailbox (m .geometry) (home m b) d) (sentTo k) ≡ sentTo d
@@ -192,10 +194,12 @@ module _ (m : Machine) (q : Request) where
         go false false i d = none-to (m .geometry) (home m (q .block)) (q .cache)
         go false true i true =
             one-to (m .geometry) (home m (q .block)) (q .cache) (SetStateWriteback (q .cache) (e .block) (q .way)) refl (homed i) (λ _. refl)
-        go false true i false = one-to (m .geometry) (home m (q .block)) (q .cache) (Invalidate (q .cache) (e .block) (q .way)) refl (homed i) (λ _. refl)
+        go false true i false = one-to (m .geometry) (home m (q .block)) (q .cache) (Invalidate (q .cache) (e .block) (q .way)) refl (homed i)
+            (λ _. refl)
 
     pub first-in : InSet (m .geometry) (home m (q .block)) (firstRound m q)
-    first-in = in-append (m .geometry) (home m (q .block)) ownCommand (cond (isWrite (q .access)) (dismiss m (q .cache) (q .block) (m .geometry .caches)) [])
+    first-in = in-append (m .geometry) (home m (q .block)) ownCommand
+        (cond (isWrite (q .access)) (dismiss m (q .cache) (q .block) (m .geometry .caches)) [])
         (own-one .1) (go (isWrite (q .access)))
       where
         go : (t : Bool) → InSet (m .geometry) (home m (q .block)) (cond t (dismiss m (q .cache) (q .block) (m .geometry .caches)) [])
@@ -213,7 +217,8 @@ module _ (m : Machine) (q : Request) where
         key true = dismiss-key m (q .cache) (q .block) ranged c
         key false = refl
         mine : c ≡ q .cache → (t u : Bool) → eqb c (q .cache) ≡ u
-            → cond t (cond (sharing (shownState m c (q .block)) && not u) (Invalidate c (q .block) (orZero (shownWay m c (q .block))) ∷ []) []) [] ≡ []
+            → cond t (cond (sharing (shownState m c (q .block)) && not u) (Invalidate c (q .block) (orZero (shownWay m c (q .block))) ∷ []) []) []
+                ≡ []
         mine z true true i = at (sharing (shownState m c (q .block)))
           where
             at : (t : Bool) → cond (t && false) (Invalidate c (q .block) (orZero (shownWay m c (q .block))) ∷ []) [] ≡ []
