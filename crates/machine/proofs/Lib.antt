@@ -54,6 +54,9 @@ mod AlmostMatches
 mod LiftRoundTwo
 mod AnswerTaken
 mod LiftResponse
+mod LiftMemoryWrite
+mod LiftMemoryRead
+mod StepRooms
 mod RequestTaken
 mod FirstMail
 mod LiftAccept
