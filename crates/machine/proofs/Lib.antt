@@ -60,6 +60,3 @@ mod StepRooms
 mod RequestTaken
 mod FirstMail
 mod LiftAccept
-mod LiftedKeeps
-mod DirectoryRooms
-mod DirectoryKeeps

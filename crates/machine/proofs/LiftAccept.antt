@@ -29,7 +29,7 @@ use Rattle.machine.specs.Machines.{Machine, home, withRequests, withCommands}
 use Rattle.machine.specs.Acceptance.{jobFor, firstRound, dismiss, recordJob, beginTwo}
 use Rattle.machine.proofs.Updates.{update, update-each, update-both, update-here, update-there}
 use Rattle.machine.proofs.Keys.{taken-other}
-use Rattle.machine.proofs.Weights.{weigh}
+use Rattle.machine.proofs.Weights.{weigh, weigh-append}
 use Rattle.machine.proofs.Ranges.{Bounds, set-below, cache-below, way-below}
 use Rattle.machine.proofs.RowLaws.{LawfulRow}
 use Rattle.machine.proofs.Ghost.{Stage, Evicting, Clearing, Progress, atStage, Nothing, To, From, Mailbox, Waiter, Idle}
@@ -43,7 +43,7 @@ use Rattle.machine.proofs.Unguarded.{enter, record-is, ask, begin, begin-is}
 use Rattle.machine.proofs.AlmostMatches.{AlmostMatches, all-match}
 use Rattle.machine.proofs.LiftRoundTwo.{afterRoundOne, begin-lifts, AskFrame, ask-frame}
 use Rattle.machine.proofs.Planning.{in-range, planned, owner-in-range}
-use Rattle.machine.proofs.RoundOne.{InSet, ones-here, ones-else, kept-else, weigh-append, ownCommand, firstMail, first-in, first-slot}
+use Rattle.machine.proofs.RoundOne.{InSet, ones-here, ones-else, kept-else, ownCommand, firstMail, first-in, first-slot}
 use Rattle.machine.proofs.RequestTaken.{took-request, served-by, waiter-request}
 use Rattle.machine.proofs.FirstMail.{OwnPart, own-mailbox, own-part, others-part}
 

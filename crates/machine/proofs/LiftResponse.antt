@@ -1,11 +1,10 @@
 -- A response is taken by the directory.
 use mathlib.Core.Path.{_≡_, refl, sym, _∙_, ap, subst}
-use mathlib.Core.Bool.{Bool, true, false}
-use mathlib.Core.List.{List, [], _∷_, _++_, map}
+use mathlib.Core.Bool.{false}
+use mathlib.Core.List.{[], _∷_, _++_, map}
 use Prim.Native.Nat.{ℕ, suc, _+_, _-_, _<_, _≤_}
 use native.Mathlib.Omega.{arith}
 use lib.Dec.{eqb}
-use lib.ListN.{length}
 use Rattle.std.specs.Finite.{nth}
 use Rattle.std.specs.shelf.Lists.{kept-by}
 use Rattle.std.specs.declared.option.Option.{Option}
@@ -23,59 +22,20 @@ use Rattle.machine.specs.declared.holding.Entry.{Entry}
 use Rattle.machine.specs.Machines.{Machine, home, oneMore, withCount, withResponses, askMemory}
 use Rattle.machine.specs.Responses.{close, advance, takeResponse}
 use Rattle.machine.proofs.Updates.{update, update₂, update-each, update₂-each, update-here, update-there}
-use Rattle.machine.proofs.Keys.{taken-other, taken-one, kept-none, kept-push-no, kept-push-yes}
+use Rattle.machine.proofs.Keys.{taken-other, only-right, kept-push-no, kept-push-yes}
 use Rattle.machine.proofs.Weights.{weigh, weigh-taken, weigh-push}
-use Rattle.machine.proofs.Ghost.{Progress, Mail, Nothing, To, From, Mailbox, Pending, Idle, Reading, Coming, Waiting, BlockAtMemory}
+use Rattle.machine.proofs.Ghost.{Progress, To, From, Mailbox, Coming, Waiting, BlockAtMemory}
 use Rattle.machine.proofs.Mailboxes.{GoodMailbox}
 use Rattle.machine.proofs.Invariant.{Invariant}
 use Rattle.machine.proofs.StepAnswer.{emptied, answer-keeps}
 use Rattle.machine.proofs.StepMemoryWrite.{pass-on-keeps}
-use Rattle.machine.proofs.Matches.{Added, ghostOf, mailSlot, pendingSlot, toMailbox, fromMailbox, atBlock, writesBack, pendingOf, pendingIn, commandWeight, responseWeight, memoryWeight, commandOne, ackOwed, Left, Matches, slot-short}
+use Rattle.machine.proofs.Matches.{Added, ghostOf, mailSlot, pendingSlot, toMailbox, fromMailbox, atBlock, writesBack, pendingOf, pendingIn, commandWeight, responseWeight, memoryWeight, commandOne, ackOwed, Left, Matches, slot-short, slot-from, pending-short, pending-is}
 use Rattle.machine.proofs.Rooms.{one-more-is}
 use Rattle.machine.proofs.Lifting.{other-key, block-pending}
 use Rattle.machine.proofs.Lifted.{Owed, Lifted, lifted-after}
 use Rattle.machine.proofs.Unguarded.{setCount, count-is}
 use Rattle.machine.proofs.AlmostMatches.{AlmostMatches}
 use Rattle.machine.proofs.AnswerTaken.{advance-lifts}
-
--- ---- a slot with two lists behind it, and an element of the second
-
-long-append : {C : Type 0} (xs : List C) (y : C) (ys : List C) → 0 < length (xs ++ y ∷ ys)
-long-append [] y ys = omega arith
-long-append (x ∷ xs) y ys = omega arith
-
-only-right : {A B C : Type 0} (f : A → C) (h : B → C) (us : List A) (p : B → Bool) (xs : List B) (i : ℕ) (x : B) (ms : List C) → nth xs i ≡ Some x
-    → p x ≡ true → map f us ++ map h (kept-by p xs) ≡ ms → length ms ≤ 1 → (ms ≡ h x ∷ []) × (kept-by p (without xs i) ≡ []) × (us ≡ [])
-only-right {A} {B} {C} f h us p xs i x ms e t k short = go (kept-by p xs) refl us refl
-  where
-    go : (ks : List B) → kept-by p xs ≡ ks → (vs : List A) → us ≡ vs → (ms ≡ h x ∷ []) × (kept-by p (without xs i) ≡ []) × (us ≡ [])
-    go [] q vs r = absurd (kept-none p xs i x e t q)
-    go (z ∷ []) q [] r = let o = taken-one p xs i x z e t q in (sym k ∙ rw (q, r, o .0) refl, o .1, r)
-    go (z ∷ y ∷ ks) q [] r = absurd (long (rw (sym k, q, r) at short))
-      where
-        long : length (h z ∷ h y ∷ map h ks) ≤ 1 → ⊥
-        long l = omega arith
-    go (z ∷ ks) q (v ∷ vs) r = absurd (long (rw (sym k, q, r) at short))
-      where
-        long : length (f v ∷ (map f vs ++ h z ∷ map h ks)) ≤ 1 → ⊥
-        long l = let a = long-append (map f vs) (h z) (map h ks) in omega arith
-
-slot-from : (x : Mail) (k : Response) → mailSlot x ≡ From k ∷ [] → x ≡ From k
-slot-from Nothing k e = cc
-slot-from (To x) k e = cc
-slot-from (From x) k e = cc
-
-pending-short : (p : Pending) → length (pendingSlot p) ≤ 1
-pending-short Idle = omega arith
-pending-short (Reading c w st) = omega arith
-pending-short (Coming ws) = omega arith
-pending-short (Waiting ws) = omega arith
-
-coming-is : (p : Pending) (ws : Words) → pendingSlot p ≡ Coming ws ∷ [] → p ≡ Coming ws
-coming-is Idle ws e = cc
-coming-is (Reading c w st) ws e = cc
-coming-is (Coming us) ws e = cc
-coming-is (Waiting us) ws e = cc
 
 -- a set with an answer on its way has a transaction
 answer-open : (h : Option Progress) (c : ℕ) (e : ℕ → Entry) (z : Mailbox) (r : Response) → z .mail ≡ From r → GoodMailbox h c e z
@@ -199,7 +159,7 @@ module _ (m : Machine) (x : Added) (sh : Matches m x) (inv : Invariant (ghostOf 
             mailbox = afterTaken .mailbox; progress = x .progress; waiter = λ c. record { kept = m .kept c; request = x .request c };
                 atMemory = blocks }))
         (block-pending (m .memory) (x .pending) (x .latest) b (Waiting ws))
-        (pass-on-keeps (ghostOf m afterTaken) invariant-taken b ws (coming-is (x .pending b) ws (slot .0 ∙ ap (λ p. p ∷ []) brings)))
+        (pass-on-keeps (ghostOf m afterTaken) invariant-taken b ws (pending-is (x .pending b) (Coming ws) (slot .0 ∙ ap (λ p. p ∷ []) brings)))
 
     with-words : Lifted m x (close (advance passed s (m .serving s)) s)
     with-words = lifted-after m x passed afterPassed (close (advance passed s (m .serving s)) s) refl

@@ -60,10 +60,6 @@ pub kept-else : (n : Sizes) (s t c : ℕ) → (t ≡ s → ⊥) → (xs : List C
 kept-else n s t c ne [] p = refl
 kept-else n s t c ne (k ∷ ks) p = let r = kept-else n s t c ne ks (p .2) in rw (ne-eqb (setOf n (commandBlock k)) t (λ z. ne (sym z ∙ p .0))) r
 
-pub weigh-append : {A : Type 0} (f : A → ℕ) (xs ys : List A) → weigh f (xs ++ ys) ≡ weigh f xs + weigh f ys
-weigh-append f [] ys = omega arith
-weigh-append f (x ∷ xs) ys = let h = weigh-append f xs ys in omega arith
-
 -- ---- what goes to the sharers
 
 module _ (m : Machine) (r b : ℕ) where
