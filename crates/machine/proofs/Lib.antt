@@ -60,3 +60,5 @@ mod StepRooms
 mod RequestTaken
 mod FirstMail
 mod LiftAccept
+mod CallKeeps
+mod RunsCohere
