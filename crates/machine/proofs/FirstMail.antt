@@ -5,7 +5,6 @@ use mathlib.Core.Logic.{_⊎_, inl, inr}
 use mathlib.Core.List.{List, [], _∷_}
 use Prim.Native.Nat.{ℕ}
 use native.Mathlib.Omega.{arith}
-use lib.Dec.{eqb}
 use Rattle.std.specs.Orderings.{When}
 use Rattle.std.specs.declared.option.Option.the-variants.{Some, None}
 use Rattle.std.proofs.shelf.Tests.{false≢true, eq-eqb, ne-eqb}
@@ -29,7 +28,7 @@ use Rattle.machine.proofs.AcceptPlan.{Plan}
 use Rattle.machine.proofs.AcceptEntries.{Dismisses, Leaves}
 use Rattle.machine.proofs.Matches.{Added, ghostOf}
 use Rattle.machine.proofs.ShownEntries.{ShownAt, shown-held, state-at}
-use Rattle.machine.proofs.Planning.{entry-from, in-range, known-is, planned}
+use Rattle.machine.proofs.Planning.{in-range, known-is, planned}
 use Rattle.machine.proofs.RoundOne.{mailOf, ownCommand, firstMail}
 
 clean-is : (st : State) → held st ≡ true → mayBeDirty st ≡ false → surelyClean st ≡ true
@@ -52,7 +51,8 @@ is-S F h = grind arith
 pub record OwnPart (m : Machine) (x : Added) (q : Request) (own : List Command) : Type 0 where
   pub stage : Stage
   pub roundOne : (stage ≡ Evicting) ⊎ (stage ≡ Clearing)
-  pub mailbox : (f : ℕ → Entry) → AsRequestor stage (jobFor m q) f (record { known = x .mailbox (home m (q .block)) (q .cache) .known; mail = mailOf own })
+  pub mailbox : (f : ℕ → Entry) → AsRequestor stage (jobFor m q) f (record { known = x .mailbox (home m (q .block)) (q .cache) .known;
+      mail = mailOf own })
   pub noEviction : own ≡ [] → stage ≡ Clearing
 
 pub own-mailbox : (m : Machine) (x : Added) (q : Request) (p : OwnPart m x q (ownCommand m q)) (f : ℕ → Entry)
@@ -79,7 +79,8 @@ module _ (m : Machine) (x : Added) (inv : Invariant (ghostOf m x)) (lawful : (st
       is : v ≡ known (q .way)
       is = known-is m x inv lawful q idle asked (q .cache) (q .way)
       go : (t : Bool) → upgrading m q ≡ t → (h : Bool) → held (v .state) ≡ h → (d : Bool) → mayBeDirty (v .state) ≡ d
-          → OwnPart m x q (cond t [] (cond h (cond d (SetStateWriteback (q .cache) (v .block) (q .way) ∷ []) (Invalidate (q .cache) (v .block) (q .way) ∷ [])) []))
+          → OwnPart m x q (cond t [] (cond h (cond d (SetStateWriteback (q .cache) (v .block) (q .way) ∷ [])
+              (Invalidate (q .cache) (v .block) (q .way) ∷ [])) []))
       go true u h hi d di = record { stage = Clearing; roundOne = inr refl; mailbox = λ f. inl (before, inl refl); noEviction = λ _. refl }
         where
           before : BeforeFill j (known (q .way))
@@ -89,15 +90,15 @@ module _ (m : Machine) (x : Added) (inv : Invariant (ghostOf m x)) (lawful : (st
       go false u false hi d di = record { stage = Clearing; roundOne = inr refl; mailbox = λ f. inl (before, inl refl); noEviction = λ _. refl }
         where
           before : BeforeFill j (known (q .way))
-          before = subst (λ z. When z ((known (q .way) .block ≡ q .block) × (readOnly (known (q .way) .state) ≡ true)) (known (q .way) ≡ noEntry)) (sym u)
-              (sym is ∙ inv .blanks s (q .cache) (q .way) hi)
+          before = subst (λ z. When z ((known (q .way) .block ≡ q .block) × (readOnly (known (q .way) .state) ≡ true)) (known (q .way) ≡ noEntry))
+              (sym u) (sym is ∙ inv .blanks s (q .cache) (q .way) hi)
       go false u true hi true di = record { stage = Evicting; roundOne = inl refl;
           mailbox = λ f. record { noUpgrade = u; block = v .block; other = λ k. plan .notShown u (q .way) hi k; shown = ap (λ a. a .block) (sym is);
             state = ap (λ a. mayBeDirty (a .state)) (sym is) ∙ di; out = refl };
           noEviction = λ k. cc }
       go false u true hi false di = record { stage = Clearing; roundOne = inr refl;
-          mailbox = λ f. inr (record { noUpgrade = u; block = v .block; other = λ k. plan .notShown u (q .way) hi k; shown = ap (λ a. a .block) (sym is);
-            state = ap (λ a. surelyClean (a .state)) (sym is) ∙ clean-is (v .state) hi di; out = refl });
+          mailbox = λ f. inr (record { noUpgrade = u; block = v .block; other = λ k. plan .notShown u (q .way) hi k;
+              shown = ap (λ a. a .block) (sym is); state = ap (λ a. surelyClean (a .state)) (sym is) ∙ clean-is (v .state) hi di; out = refl });
           noEviction = λ _. refl }
 
   -- the others' part
@@ -108,7 +109,8 @@ module _ (m : Machine) (x : Added) (inv : Invariant (ghostOf m x)) (lawful : (st
           → Dismisses (m .entry s) j c (mailOf (cond t (cond (u && true) (Invalidate c (q .block) (orZero (shownWay m c (q .block))) ∷ []) []) []))
           ⊎ Leaves (m .entry s) j c (mailOf (cond t (cond (u && true) (Invalidate c (q .block) (orZero (shownWay m c (q .block))) ∷ []) []) []))
       go true w true k = inl (record { place = orZero (shownWay m c (q .block)); writing = w;
-          shown = ap (λ z. m .entry s c (orZero z)) (it .shown) ∙ shared-entry (m .entry s c (it .way)) (sym (it .state) ∙ st) (it .block); out = refl })
+          shown = ap (λ z. m .entry s c (orZero z)) (it .shown) ∙ shared-entry (m .entry s c (it .way)) (sym (it .state) ∙ st) (it .block);
+              out = refl })
         where
           st : shownState m c (q .block) ≡ S
           st = is-S (shownState m c (q .block)) k

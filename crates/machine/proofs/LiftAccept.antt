@@ -29,7 +29,7 @@ use Rattle.machine.specs.Machines.{Machine, home, withRequests, withCommands}
 use Rattle.machine.specs.Acceptance.{jobFor, firstRound, dismiss, recordJob, beginTwo}
 use Rattle.machine.proofs.Updates.{update, update-each, update-both, update-here, update-there}
 use Rattle.machine.proofs.Keys.{taken-other}
-use Rattle.machine.proofs.Weights.{weigh}
+use Rattle.machine.proofs.Weights.{weigh, weigh-append}
 use Rattle.machine.proofs.Ranges.{Bounds, set-below, cache-below, way-below}
 use Rattle.machine.proofs.RowLaws.{LawfulRow}
 use Rattle.machine.proofs.Ghost.{Stage, Evicting, Clearing, Progress, atStage, Nothing, To, From, Mailbox, Waiter, Idle}
@@ -43,7 +43,7 @@ use Rattle.machine.proofs.Unguarded.{enter, record-is, ask, begin, begin-is}
 use Rattle.machine.proofs.AlmostMatches.{AlmostMatches, all-match}
 use Rattle.machine.proofs.LiftRoundTwo.{afterRoundOne, begin-lifts, AskFrame, ask-frame}
 use Rattle.machine.proofs.Planning.{in-range, planned, owner-in-range}
-use Rattle.machine.proofs.RoundOne.{InSet, ones-here, ones-else, kept-else, weigh-append, ownCommand, firstMail, first-in, first-slot}
+use Rattle.machine.proofs.RoundOne.{InSet, ones-here, ones-else, kept-else, ownCommand, firstMail, first-in, first-slot}
 use Rattle.machine.proofs.RequestTaken.{took-request, served-by, waiter-request}
 use Rattle.machine.proofs.FirstMail.{OwnPart, own-mailbox, own-part, others-part}
 
@@ -73,8 +73,11 @@ one-in-round st n (inl e) = rw e (n, refl)
 one-in-round st n (inr e) = rw e (n, refl)
 
 -- Request q is at place i, and the count of its set is 0.
-module _ (m : Machine) (x : Added) (sh : Matches m x) (inv : Invariant (ghostOf m x)) (owed : Owed m) (lawful : (st : State) → LawfulRow st (m .rows st))
+module _ (m : Machine) (x : Added) (sh : Matches m x) (inv : Invariant (ghostOf m x)) (owed : Owed m)
+    (lawful : (st : State) → LawfulRow st (m .rows st))
     (i : ℕ) (q : Request) (e : nth (m .requests) i ≡ Some q) (free : m .count (home m (q .block)) ≡ 0) where
+  abbrev g : Sizes
+  g = m .geometry
   abbrev s : ℕ
   s = home m (q .block)
   abbrev j : Job
@@ -90,13 +93,13 @@ module _ (m : Machine) (x : Added) (sh : Matches m x) (inv : Invariant (ghostOf 
       go None k a = k
       go (Some h) k a = absurd a
 
-  quiet : ((c : ℕ) → x .mailbox s c .mail ≡ Nothing) × ((b : ℕ) → setOf (m .geometry) b ≡ s → x .pending b ≡ Idle) × (ackOwed (m .serving s) ≡ 0)
+  quiet : ((c : ℕ) → x .mailbox s c .mail ≡ Nothing) × ((b : ℕ) → setOf g b ≡ s → x .pending b ≡ Idle) × (ackOwed (m .serving s) ≡ 0)
   quiet = quiet-from-count m x sh s free
 
   own : OwnPart m x q (ownCommand m q)
   own = own-part m x inv lawful q idle asked
 
-  room : (q .cache < m .geometry .caches) × (q .way < m .geometry .ways) × (q .block < m .geometry .blocks)
+  room : (q .cache < g .caches) × (q .way < g .ways) × (q .block < g .blocks)
   room = inv .ranges (q .cache) q asked
 
   abbrev mailboxesNow : ℕ → Mailbox
@@ -119,51 +122,52 @@ module _ (m : Machine) (x : Added) (sh : Matches m x) (inv : Invariant (ghostOf 
       (accept-keeps (ghostOf m x) inv s j (own .stage) (firstMail m q) idle (planned m x inv lawful q idle asked) (own .roundOne)
         (served-by (ghostOf m x) inv q j asked refl refl) (own-mailbox m x q own) (others-part m x inv lawful q idle asked) (quiet .1) room)
 
-  sum : 0 ≡ weigh (commandWeight (m .geometry) s) (m .commands) + (weigh (responseWeight (m .geometry) s) (m .responses)
-      + (weigh (memoryWeight (m .geometry) s) (m .memoryCommands) + ackOwed (m .serving s)))
+  sum : 0 ≡ weigh (commandWeight g s) (m .commands) + (weigh (responseWeight g s) (m .responses)
+      + (weigh (memoryWeight g s) (m .memoryCommands) + ackOwed (m .serving s)))
   sum = sym free ∙ sh .weights s
 
-  homed : held (m .entry s (q .cache) (q .way) .state) ≡ true → setOf (m .geometry) (m .entry s (q .cache) (q .way) .block) ≡ s
+  homed : held (m .entry s (q .cache) (q .way) .state) ≡ true → setOf g (m .entry s (q .cache) (q .way) .block) ≡ s
   homed h = inv .entriesHome s (q .cache) (q .way) h .0
 
-  inside : InSet (m .geometry) s (firstRound m q)
+  inside : InSet g s (firstRound m q)
   inside = first-in m q (in-range m x inv lawful q idle asked) homed
 
-  mail-slot : (c : ℕ) → map To (kept-by (toMailbox (m .geometry) s c) (firstRound m q)) ≡ mailSlot (firstMail m q c)
+  mail-slot : (c : ℕ) → map To (kept-by (toMailbox g s c) (firstRound m q)) ≡ mailSlot (firstMail m q c)
   mail-slot = first-slot m q (in-range m x inv lawful q idle asked) homed
 
   almost : (fr cs : List Command) → firstRound m q ≡ fr → cs ≡ m .commands ++ fr → AlmostMatches (accepted fr cs) afterAccept s
   almost fr cs fi ci = record {
       serving = update-both (λ t a b. SameProgress a b) (m .serving) (x .progress) s (Some (record { job = j; round = One (length fr) }))
           (Some (atStage (own .stage) j)) (refl, one-in-round (own .stage) (length fr) (own .roundOne)) (λ t _. sh .serving t);
-      requests = update-each (λ c z. kept-by (λ (a : Request). eqb (a .cache) c) (without (m .requests) i) ≡ requestSlot z) (x .request) (q .cache) None
+      requests = update-each (λ c z. kept-by (λ (a : Request). eqb (a .cache) c) (without (m .requests) i) ≡ requestSlot z) (x .request)
+          (q .cache) None
           (took-request m x sh i q e .1)
           (λ c n. taken-other (λ (a : Request). eqb (a .cache) c) (m .requests) i q e (ne-eqb (q .cache) c (λ k. n (sym k))) ∙ sh .requests c);
-      mails = update-each (λ t f. (c : ℕ) → map To (kept-by (toMailbox (m .geometry) t c) cs)
-            ++ map From (kept-by (fromMailbox (m .geometry) t c) (m .responses)) ≡ mailSlot (f c .mail)) (x .mailbox) s mailboxesNow
-          (λ c. let z = both-none To From (kept-by (toMailbox (m .geometry) s c) (m .commands)) (kept-by (fromMailbox (m .geometry) s c) (m .responses))
+      mails = update-each (λ t f. (c : ℕ) → map To (kept-by (toMailbox g t c) cs)
+            ++ map From (kept-by (fromMailbox g t c) (m .responses)) ≡ mailSlot (f c .mail)) (x .mailbox) s mailboxesNow
+          (λ c. let z = both-none To From (kept-by (toMailbox g s c) (m .commands)) (kept-by (fromMailbox g s c) (m .responses))
                   (rw (quiet .0 c) at (sh .mails s c)) in
-            rw (kept-all s c, z .0, z .1) (append-nil (map To (kept-by (toMailbox (m .geometry) s c) (firstRound m q))) ∙ mail-slot c))
-          (λ t ne c. rw (kept-all t c, kept-else (m .geometry) s t c ne (firstRound m q) inside, append-nil (kept-by (toMailbox (m .geometry) t c) (m .commands)))
+            rw (kept-all s c, z .0, z .1) (append-nil (map To (kept-by (toMailbox g s c) (firstRound m q))) ∙ mail-slot c))
+          (λ t ne c. rw (kept-all t c, kept-else g s t c ne (firstRound m q) inside, append-nil (kept-by (toMailbox g t c) (m .commands)))
             (sh .mails t c));
       pendings = sh .pendings;
-      weights = update-both (λ t a z. a ≡ weigh (commandWeight (m .geometry) t) cs + (weigh (responseWeight (m .geometry) t) (m .responses)
-            + (weigh (memoryWeight (m .geometry) t) (m .memoryCommands) + ackOwed z)))
+      weights = update-both (λ t a z. a ≡ weigh (commandWeight g t) cs + (weigh (responseWeight g t) (m .responses)
+            + (weigh (memoryWeight g t) (m .memoryCommands) + ackOwed z)))
           (m .count) (m .serving) s (1 + length fr) (Some (record { job = j; round = One (length fr) }))
-          (let u = weigh-all (commandWeight (m .geometry) s) in let o = ones-here (m .geometry) s (firstRound m q) inside .1 in
+          (let u = weigh-all (commandWeight g s) in let o = ones-here g s (firstRound m q) inside .1 in
             let l = ap length fi in let v = sum in omega arith)
-          (λ t ne. let u = weigh-all (commandWeight (m .geometry) t) in let o = ones-else (m .geometry) s t ne (firstRound m q) inside .1 in
+          (λ t ne. let u = weigh-all (commandWeight g t) in let o = ones-else g s t ne (firstRound m q) inside .1 in
             let v = sh .weights t in omega arith);
-      left = λ t ne. let u = weigh-all (commandOne (m .geometry) t) in let o = ones-else (m .geometry) s t ne (firstRound m q) inside .0 in
-          let k : weigh (commandOne (m .geometry) t) (m .commands) + weigh (responseWeight (m .geometry) t) (m .responses)
-                ≡ weigh (commandOne (m .geometry) t) cs + weigh (responseWeight (m .geometry) t) (m .responses) = omega arith in
+      left = λ t ne. let u = weigh-all (commandOne g t) in let o = ones-else g s t ne (firstRound m q) inside .0 in
+          let k : weigh (commandOne g t) (m .commands) + weigh (responseWeight g t) (m .responses)
+                ≡ weigh (commandOne g t) cs + weigh (responseWeight g t) (m .responses) = omega arith in
           rw (update-there (m .serving) s (Some (record { job = j; round = One (length fr) })) t ne) (subst (Left (m .serving t)) k (sh .left t)) }
     where
       all : cs ≡ m .commands ++ firstRound m q
       all = ci ∙ ap (λ z. m .commands ++ z) (sym fi)
-      kept-all : (t c : ℕ) → kept-by (toMailbox (m .geometry) t c) cs
-          ≡ kept-by (toMailbox (m .geometry) t c) (m .commands) ++ kept-by (toMailbox (m .geometry) t c) (firstRound m q)
-      kept-all t c = ap (kept-by (toMailbox (m .geometry) t c)) all ∙ kept-by-append (toMailbox (m .geometry) t c) (m .commands) (firstRound m q)
+      kept-all : (t c : ℕ) → kept-by (toMailbox g t c) cs
+          ≡ kept-by (toMailbox g t c) (m .commands) ++ kept-by (toMailbox g t c) (firstRound m q)
+      kept-all t c = ap (kept-by (toMailbox g t c)) all ∙ kept-by-append (toMailbox g t c) (m .commands) (firstRound m q)
       weigh-all : (f : Command → ℕ) → weigh f cs ≡ weigh f (m .commands) + weigh f (firstRound m q)
       weigh-all f = ap (weigh f) all ∙ weigh-append f (m .commands) (firstRound m q)
 
@@ -172,7 +176,8 @@ module _ (m : Machine) (x : Added) (sh : Matches m x) (inv : Invariant (ghostOf 
   sends k ks fi = record { added = afterAccept; matches = all-match (accepted (k ∷ ks) (m .commands ++ k ∷ ks)) afterAccept s
         (almost (k ∷ ks) (m .commands ++ k ∷ ks) fi refl) here;
       invariant = invariant-accepted (k ∷ ks) (m .commands ++ k ∷ ks);
-      owed = update-both (λ t a z. a ≡ 0 → z ≡ None) (m .count) (m .serving) s (1 + length (k ∷ ks)) (Some now) (λ z. absurd (some-owed z)) (λ t _. owed t);
+      owed = update-both (λ t a z. a ≡ 0 → z ≡ None) (m .count) (m .serving) s (1 + length (k ∷ ks)) (Some now) (λ z. absurd (some-owed z))
+          (λ t _. owed t);
       latest = refl; kept = refl; geometry = refl; rows = refl; turn = refl }
     where
       now : Transaction
@@ -180,11 +185,11 @@ module _ (m : Machine) (x : Added) (sh : Matches m x) (inv : Invariant (ghostOf 
       some-owed : 1 + length (k ∷ ks) ≡ 0 → ⊥
       some-owed z = omega arith
       here : Left (update (m .serving) s (Some now) s)
-          (weigh (commandOne (m .geometry) s) (m .commands ++ k ∷ ks) + weigh (responseWeight (m .geometry) s) (m .responses))
+          (weigh (commandOne g s) (m .commands ++ k ∷ ks) + weigh (responseWeight g s) (m .responses))
       here = rw (update-here (m .serving) s (Some now))
-          (let u = weigh-append (commandOne (m .geometry) s) (m .commands) (k ∷ ks) in
-            let o : weigh (commandOne (m .geometry) s) (k ∷ ks) ≡ length (k ∷ ks) = rw fi at (ones-here (m .geometry) s (firstRound m q) inside .0) in
-            let l = lighter (m .geometry) s (m .commands) in let v = sum in (omega arith, omega arith))
+          (let u = weigh-append (commandOne g s) (m .commands) (k ∷ ks) in
+            let o : weigh (commandOne g s) (k ∷ ks) ≡ length (k ∷ ks) = rw fi at (ones-here g s (firstRound m q) inside .0) in
+            let l = lighter g s (m .commands) in let v = sum in (omega arith, omega arith))
 
   -- round one has none: round two begins at once
   begins : firstRound m q ≡ [] → Lifted m x (begin (enter asking j 0) j)
@@ -196,7 +201,7 @@ module _ (m : Machine) (x : Added) (sh : Matches m x) (inv : Invariant (ghostOf 
       quiet-mail : (c : ℕ) → afterAccept .mailbox s c .mail ≡ Nothing
       quiet-mail c = rw (update-here (x .mailbox) s mailboxesNow) (no-slot (firstMail m q c) (rw fi at (mail-slot c)))
       clear : own .stage ≡ Clearing
-      clear = own .noEviction (front-none (ownCommand m q) (cond (isWrite (q .access)) (dismiss m (q .cache) (q .block) (m .geometry .caches)) []) fi)
+      clear = own .noEviction (front-none (ownCommand m q) (cond (isWrite (q .access)) (dismiss m (q .cache) (q .block) (g .caches)) []) fi)
       b : Matches (begin n j) (afterRoundOne afterAccept s j) × Invariant (ghostOf (begin n j) (afterRoundOne afterAccept s j))
       b = begin-lifts n afterAccept j (almost [] (m .commands) fi (sym (append-nil (m .commands)))) (invariant-accepted [] (m .commands))
           (update-here (x .progress) s (Some (atStage (own .stage) j)) ∙ ap (λ (z : Stage). Some (atStage z j)) clear)
@@ -208,21 +213,22 @@ module _ (m : Machine) (x : Added) (sh : Matches m x) (inv : Invariant (ghostOf 
         where
           some-owed : n .count s ≤ ask n j (j .source) .count s → ask n j (j .source) .count s ≡ 0 → n .count s ≡ 1 → ⊥
           some-owed a b c = omega arith
-      owes t (inr ne) z = update-there (ask n j (j .source) .serving) s (Some (record { job = j; round = Two })) t ne ∙ ap (λ g. g t) (f .serving)
+      owes t (inr ne) z = update-there (ask n j (j .source) .serving) s (Some (record { job = j; round = Two })) t ne ∙ ap (λ h. h t) (f .serving)
           ∙ update-there (m .serving) s (Some (record { job = j; round = One 0 })) t ne
           ∙ owed t (sym (f .counts t ne ∙ update-there (m .count) s (1 + 0) t ne) ∙ z)
 
   -- ---- with the machine's own tables
 
-  module _ (bounds : Bounds (m .geometry)) where
+  module _ (bounds : Bounds g) where
     entered : (n : ℕ) → recordJob asking j n ≡ enter asking j n
-    entered n = record-is asking j n (set-below (m .geometry) bounds (q .block)) (cache-below (m .geometry) bounds (q .cache) (room .0))
-        (way-below (m .geometry) bounds (q .way) (room .1)) (owner-in-range m x inv lawful q idle asked bounds)
+    entered n = record-is asking j n (set-below g bounds (q .block)) (cache-below g bounds (q .cache) (room .0))
+        (way-below g bounds (q .way) (room .1)) (owner-in-range m x inv lawful q idle asked bounds)
 
     pub accept-sends : (k : Command) (ks : List Command) → firstRound m q ≡ k ∷ ks
         → Lifted m x (withCommands (recordJob asking j (length (k ∷ ks))) (recordJob asking j (length (k ∷ ks)) .commands ++ k ∷ ks))
-    accept-sends k ks fi = subst (λ (n : Machine). Lifted m x (withCommands n (n .commands ++ k ∷ ks))) (sym (entered (length (k ∷ ks)))) (sends k ks fi)
+    accept-sends k ks fi = subst (λ (n : Machine). Lifted m x (withCommands n (n .commands ++ k ∷ ks))) (sym (entered (length (k ∷ ks))))
+        (sends k ks fi)
 
     pub accept-begins : firstRound m q ≡ [] → Lifted m x (beginTwo (recordJob asking j 0) j)
     accept-begins fi = subst (Lifted m x) (sym (ap (λ (n : Machine). beginTwo n j) (entered 0)
-        ∙ begin-is (enter asking j 0) j (set-below (m .geometry) bounds (q .block)) (rw (update-here (m .count) s (1 + 0)) (omega arith)))) (begins fi)
+        ∙ begin-is (enter asking j 0) j (set-below g bounds (q .block)) (rw (update-here (m .count) s (1 + 0)) (omega arith)))) (begins fi)

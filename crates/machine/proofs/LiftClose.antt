@@ -31,7 +31,8 @@ use Rattle.machine.proofs.Lifted.{Lifted}
 use Rattle.machine.proofs.Unguarded.{setServing, close-is}
 
 -- in round two of a set with nothing on its way, the requestor has been filled
-quiet-filled : (g : Ghost) → Invariant g → (s : ℕ) (j : Job) (st : Stage) → g .progress s ≡ Some (atStage st j) → ((c : ℕ) → g .mailbox s c .mail ≡ Nothing)
+quiet-filled : (g : Ghost) → Invariant g → (s : ℕ) (j : Job) (st : Stage) → g .progress s ≡ Some (atStage st j)
+    → ((c : ℕ) → g .mailbox s c .mail ≡ Nothing)
     → ((b : ℕ) → setOf (g .geometry) b ≡ s → g .atMemory b .pending ≡ Idle) → InRound st Two → st ≡ Filled
 quiet-filled g inv s j Evicting h quiet idle two = let e = two .1 in grind arith
 quiet-filled g inv s j Clearing h quiet idle two = let e = two .1 in grind arith
@@ -52,7 +53,8 @@ quiet-filled g inv s j Asked h quiet idle two = go (j .source) refl
         let a = it .2 .1 in let b = quiet o in cc
 
 abbrev pub afterClose : Added → ℕ → Added
-afterClose x s = record { mailbox = x .mailbox; progress = update (x .progress) s None; request = x .request; pending = x .pending; latest = x .latest }
+afterClose x s = record { mailbox = x .mailbox; progress = update (x .progress) s None; request = x .request; pending = x .pending;
+    latest = x .latest }
 
 module _ (m : Machine) (x : Added) (sh : Matches m x) (inv : Invariant (ghostOf m x)) (s : ℕ) (h : Progress) (i : x .progress s ≡ Some h) where
   closed : m .count s ≡ 0 → Matches (setServing m s None) (afterClose x s) × Invariant (ghostOf (setServing m s None) (afterClose x s))

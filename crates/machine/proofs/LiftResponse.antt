@@ -1,18 +1,17 @@
 -- A response is taken by the directory.
 use mathlib.Core.Path.{_≡_, refl, sym, _∙_, ap, subst}
-use mathlib.Core.Bool.{Bool, true, false}
-use mathlib.Core.List.{List, [], _∷_, _++_, map}
+use mathlib.Core.Bool.{false}
+use mathlib.Core.List.{[], _∷_, _++_, map}
 use Prim.Native.Nat.{ℕ, suc, _+_, _-_, _<_, _≤_}
 use native.Mathlib.Omega.{arith}
 use lib.Dec.{eqb}
-use lib.ListN.{length}
 use Rattle.std.specs.Finite.{nth}
 use Rattle.std.specs.shelf.Lists.{kept-by}
 use Rattle.std.specs.declared.option.Option.{Option}
 use Rattle.std.specs.declared.option.Option.the-variants.{Some, None}
 use Rattle.std.proofs.shelf.Tests.{eq-eqb, ne-eqb, and-from}
 use Rattle.bedrock.specs.declared.words.Words.{Words}
-use Rattle.bedrock.specs.Geometries.{setOf}
+use Rattle.bedrock.specs.Geometries.{Sizes}
 use Rattle.messages.specs.declared.response.Response.{Response}
 use Rattle.messages.specs.declared.response.Response.the-variants.{InvalidateAck, CoherenceAck, Writeback, NullWriteback}
 use Rattle.messages.specs.declared.memory_command.MemoryCommand.{MemoryCommand}
@@ -21,61 +20,22 @@ use Rattle.messages.specs.Messages.{responseCache, responseBlock}
 use Rattle.wires.specs.Waiting.{without}
 use Rattle.machine.specs.declared.holding.Entry.{Entry}
 use Rattle.machine.specs.Machines.{Machine, home, oneMore, withCount, withResponses, askMemory}
-use Rattle.machine.specs.Responses.{close, passOn, advance, takeResponse}
+use Rattle.machine.specs.Responses.{close, advance, takeResponse}
 use Rattle.machine.proofs.Updates.{update, update₂, update-each, update₂-each, update-here, update-there}
-use Rattle.machine.proofs.Keys.{taken-other, taken-one, kept-none, kept-push-no, kept-push-yes}
+use Rattle.machine.proofs.Keys.{taken-other, only-right, kept-push-no, kept-push-yes}
 use Rattle.machine.proofs.Weights.{weigh, weigh-taken, weigh-push}
-use Rattle.machine.proofs.Ghost.{Progress, Mail, Nothing, To, From, Mailbox, Pending, Idle, Reading, Coming, Waiting, BlockAtMemory}
+use Rattle.machine.proofs.Ghost.{Progress, To, From, Mailbox, Coming, Waiting, BlockAtMemory}
 use Rattle.machine.proofs.Mailboxes.{GoodMailbox}
 use Rattle.machine.proofs.Invariant.{Invariant}
 use Rattle.machine.proofs.StepAnswer.{emptied, answer-keeps}
 use Rattle.machine.proofs.StepMemoryWrite.{pass-on-keeps}
-use Rattle.machine.proofs.Matches.{Added, ghostOf, mailSlot, pendingSlot, toMailbox, fromMailbox, atBlock, writesBack, pendingOf, pendingIn, commandWeight, responseWeight, memoryWeight, commandOne, ackOwed, Left, Matches, slot-short}
+use Rattle.machine.proofs.Matches.{Added, ghostOf, mailSlot, pendingSlot, toMailbox, fromMailbox, atBlock, writesBack, pendingOf, pendingIn, commandWeight, responseWeight, memoryWeight, commandOne, ackOwed, Left, Matches, slot-short, slot-from, pending-short, pending-is}
 use Rattle.machine.proofs.Rooms.{one-more-is}
 use Rattle.machine.proofs.Lifting.{other-key, block-pending}
 use Rattle.machine.proofs.Lifted.{Owed, Lifted, lifted-after}
 use Rattle.machine.proofs.Unguarded.{setCount, count-is}
 use Rattle.machine.proofs.AlmostMatches.{AlmostMatches}
 use Rattle.machine.proofs.AnswerTaken.{advance-lifts}
-
--- ---- a slot with two lists behind it, and an element of the second
-
-long-append : {C : Type 0} (xs : List C) (y : C) (ys : List C) → 0 < length (xs ++ y ∷ ys)
-long-append [] y ys = omega arith
-long-append (x ∷ xs) y ys = omega arith
-
-only-right : {A B C : Type 0} (f : A → C) (h : B → C) (us : List A) (p : B → Bool) (xs : List B) (i : ℕ) (x : B) (ms : List C) → nth xs i ≡ Some x
-    → p x ≡ true → map f us ++ map h (kept-by p xs) ≡ ms → length ms ≤ 1 → (ms ≡ h x ∷ []) × (kept-by p (without xs i) ≡ []) × (us ≡ [])
-only-right {A} {B} {C} f h us p xs i x ms e t k short = go (kept-by p xs) refl us refl
-  where
-    go : (ks : List B) → kept-by p xs ≡ ks → (vs : List A) → us ≡ vs → (ms ≡ h x ∷ []) × (kept-by p (without xs i) ≡ []) × (us ≡ [])
-    go [] q vs r = absurd (kept-none p xs i x e t q)
-    go (z ∷ []) q [] r = let o = taken-one p xs i x z e t q in (sym k ∙ rw (q, r, o .0) refl, o .1, r)
-    go (z ∷ y ∷ ks) q [] r = absurd (long (rw (sym k, q, r) at short))
-      where
-        long : length (h z ∷ h y ∷ map h ks) ≤ 1 → ⊥
-        long l = omega arith
-    go (z ∷ ks) q (v ∷ vs) r = absurd (long (rw (sym k, q, r) at short))
-      where
-        long : length (f v ∷ (map f vs ++ h z ∷ map h ks)) ≤ 1 → ⊥
-        long l = let a = long-append (map f vs) (h z) (map h ks) in omega arith
-
-slot-from : (x : Mail) (k : Response) → mailSlot x ≡ From k ∷ [] → x ≡ From k
-slot-from Nothing k e = cc
-slot-from (To x) k e = cc
-slot-from (From x) k e = cc
-
-pending-short : (p : Pending) → length (pendingSlot p) ≤ 1
-pending-short Idle = omega arith
-pending-short (Reading c w st) = omega arith
-pending-short (Coming ws) = omega arith
-pending-short (Waiting ws) = omega arith
-
-coming-is : (p : Pending) (ws : Words) → pendingSlot p ≡ Coming ws ∷ [] → p ≡ Coming ws
-coming-is Idle ws e = cc
-coming-is (Reading c w st) ws e = cc
-coming-is (Coming us) ws e = cc
-coming-is (Waiting us) ws e = cc
 
 -- a set with an answer on its way has a transaction
 answer-open : (h : Option Progress) (c : ℕ) (e : ℕ → Entry) (z : Mailbox) (r : Response) → z .mail ≡ From r → GoodMailbox h c e z
@@ -87,6 +47,8 @@ answer-open (Some h) c e z r m ok = (h, refl)
 
 module _ (m : Machine) (x : Added) (sh : Matches m x) (inv : Invariant (ghostOf m x)) (owed : Owed m) (i : ℕ) (r : Response)
     (e : nth (m .responses) i ≡ Some r) (low : home m (responseBlock r) < 16) (small : m .count (home m (responseBlock r)) ≤ 1000) where
+  abbrev g : Sizes
+  g = m .geometry
   abbrev s : ℕ
   s = home m (responseBlock r)
   abbrev fewer : ℕ → ℕ
@@ -98,47 +60,47 @@ module _ (m : Machine) (x : Added) (sh : Matches m x) (inv : Invariant (ghostOf 
     request = x .request; pending = x .pending; latest = x .latest }
 
   -- it is its mailbox's mail
-  there : (x .mailbox s (responseCache r) .mail ≡ From r) × (kept-by (fromMailbox (m .geometry) s (responseCache r)) (without (m .responses) i) ≡ [])
-      × (kept-by (toMailbox (m .geometry) s (responseCache r)) (m .commands) ≡ [])
+  there : (x .mailbox s (responseCache r) .mail ≡ From r) × (kept-by (fromMailbox g s (responseCache r)) (without (m .responses) i) ≡ [])
+      × (kept-by (toMailbox g s (responseCache r)) (m .commands) ≡ [])
   there =
       let c : ℕ = responseCache r in
-      let q = only-right To From (kept-by (toMailbox (m .geometry) s c) (m .commands)) (fromMailbox (m .geometry) s c) (m .responses) i r
+      let q = only-right To From (kept-by (toMailbox g s c) (m .commands)) (fromMailbox g s c) (m .responses) i r
             (mailSlot (x .mailbox s c .mail)) e (and-from (eqb s s) (eqb c c) (eq-eqb s s refl) (eq-eqb c c refl)) (sh .mails s c)
             (slot-short (x .mailbox s c .mail)) in
       (slot-from (x .mailbox s c .mail) r (q .0), q .1, q .2)
 
   taken-mails : (t d : ℕ)
-      → map To (kept-by (toMailbox (m .geometry) t d) (m .commands)) ++ map From (kept-by (fromMailbox (m .geometry) t d) (without (m .responses) i))
+      → map To (kept-by (toMailbox g t d) (m .commands)) ++ map From (kept-by (fromMailbox g t d) (without (m .responses) i))
       ≡ mailSlot (afterTaken .mailbox t d .mail)
   taken-mails = update₂-each
-      (λ t d z. map To (kept-by (toMailbox (m .geometry) t d) (m .commands)) ++ map From (kept-by (fromMailbox (m .geometry) t d) (without (m .responses) i))
+      (λ t d z. map To (kept-by (toMailbox g t d) (m .commands)) ++ map From (kept-by (fromMailbox g t d) (without (m .responses) i))
         ≡ mailSlot (z .mail)) (x .mailbox) s (responseCache r) (emptied (x .mailbox s (responseCache r)))
       (rw (there .1, there .2) refl)
-      (λ t d a. rw (taken-other (fromMailbox (m .geometry) t d) (m .responses) i r e (other-key s (responseCache r) t d a)) (sh .mails t d))
+      (λ t d a. rw (taken-other (fromMailbox g t d) (m .responses) i r e (other-key s (responseCache r) t d a)) (sh .mails t d))
 
-  taken-weights : (t : ℕ) → fewer t ≡ weigh (commandWeight (m .geometry) t) (m .commands) + (weigh (responseWeight (m .geometry) t) (without (m .responses) i)
-      + (weigh (memoryWeight (m .geometry) t) (m .memoryCommands) + ackOwed (m .serving t)))
-  taken-weights = update-each (λ t a. a ≡ weigh (commandWeight (m .geometry) t) (m .commands)
-        + (weigh (responseWeight (m .geometry) t) (without (m .responses) i) + (weigh (memoryWeight (m .geometry) t) (m .memoryCommands) + ackOwed (m .serving t))))
+  taken-weights : (t : ℕ) → fewer t ≡ weigh (commandWeight g t) (m .commands) + (weigh (responseWeight g t) (without (m .responses) i)
+      + (weigh (memoryWeight g t) (m .memoryCommands) + ackOwed (m .serving t)))
+  taken-weights = update-each (λ t a. a ≡ weigh (commandWeight g t) (m .commands)
+        + (weigh (responseWeight g t) (without (m .responses) i) + (weigh (memoryWeight g t) (m .memoryCommands) + ackOwed (m .serving t))))
       (m .count) s (m .count s - 1)
-      (let u = rw (eq-eqb s s refl) at (weigh-taken (responseWeight (m .geometry) s) (m .responses) i r e) in let v = sh .weights s in omega arith)
-      (λ t k. let u = rw (ne-eqb s t (λ z. k (sym z))) at (weigh-taken (responseWeight (m .geometry) t) (m .responses) i r e) in
+      (let u = rw (eq-eqb s s refl) at (weigh-taken (responseWeight g s) (m .responses) i r e) in let v = sh .weights s in omega arith)
+      (λ t k. let u = rw (ne-eqb s t (λ z. k (sym z))) at (weigh-taken (responseWeight g t) (m .responses) i r e) in
         let v = sh .weights t in omega arith)
 
   taken-left : (t : ℕ) → (t ≡ s → ⊥)
-      → Left (m .serving t) (weigh (commandOne (m .geometry) t) (m .commands) + weigh (responseWeight (m .geometry) t) (without (m .responses) i))
+      → Left (m .serving t) (weigh (commandOne g t) (m .commands) + weigh (responseWeight g t) (without (m .responses) i))
   taken-left t k =
-      let u = rw (ne-eqb s t (λ z. k (sym z))) at (weigh-taken (responseWeight (m .geometry) t) (m .responses) i r e) in
-      let q : weigh (commandOne (m .geometry) t) (m .commands) + weigh (responseWeight (m .geometry) t) (m .responses)
-            ≡ weigh (commandOne (m .geometry) t) (m .commands) + weigh (responseWeight (m .geometry) t) (without (m .responses) i) = omega arith in
+      let u = rw (ne-eqb s t (λ z. k (sym z))) at (weigh-taken (responseWeight g t) (m .responses) i r e) in
+      let q : weigh (commandOne g t) (m .commands) + weigh (responseWeight g t) (m .responses)
+            ≡ weigh (commandOne g t) (m .commands) + weigh (responseWeight g t) (without (m .responses) i) = omega arith in
       subst (Left (m .serving t)) q (sh .left t)
 
   left-here : Left (m .serving s)
-      (suc (weigh (commandOne (m .geometry) s) (m .commands) + weigh (responseWeight (m .geometry) s) (without (m .responses) i)))
+      (suc (weigh (commandOne g s) (m .commands) + weigh (responseWeight g s) (without (m .responses) i)))
   left-here =
-      let u = rw (eq-eqb s s refl) at (weigh-taken (responseWeight (m .geometry) s) (m .responses) i r e) in
-      let q : weigh (commandOne (m .geometry) s) (m .commands) + weigh (responseWeight (m .geometry) s) (m .responses)
-            ≡ suc (weigh (commandOne (m .geometry) s) (m .commands) + weigh (responseWeight (m .geometry) s) (without (m .responses) i)) = omega arith in
+      let u = rw (eq-eqb s s refl) at (weigh-taken (responseWeight g s) (m .responses) i r e) in
+      let q : weigh (commandOne g s) (m .commands) + weigh (responseWeight g s) (m .responses)
+            ≡ suc (weigh (commandOne g s) (m .commands) + weigh (responseWeight g s) (without (m .responses) i)) = omega arith in
       subst (Left (m .serving s)) q (sh .left s)
 
   opened : (k : Progress) × (x .progress s ≡ Some k)
@@ -153,7 +115,8 @@ module _ (m : Machine) (x : Added) (sh : Matches m x) (inv : Invariant (ghostOf 
 
   -- an answer without words
   plain : ((b : ℕ) → writesBack b r ≡ false) → Lifted m x (close (advance taken s (m .serving s)) s)
-  plain dry = lifted-after m x taken afterTaken (close (advance taken s (m .serving s)) s) refl (record { kept = refl; geometry = refl; rows = refl; turn = refl })
+  plain dry = lifted-after m x taken afterTaken (close (advance taken s (m .serving s)) s) refl
+      (record { kept = refl; geometry = refl; rows = refl; turn = refl })
       (advance-lifts taken afterTaken s (opened .0) (record { serving = sh .serving; requests = sh .requests; mails = taken-mails;
           pendings = λ b. rw (taken-other (writesBack b) (m .responses) i r e (dry b)) (sh .pendings b); weights = taken-weights; left = taken-left })
         invariant-taken (opened .1) left-here owed-taken low (rw (update-here (m .count) s (m .count s - 1)) (omega arith)) (m .serving s) refl)
@@ -178,23 +141,25 @@ module _ (m : Machine) (x : Added) (sh : Matches m x) (inv : Invariant (ghostOf 
     almost : AlmostMatches passed afterPassed s
     almost = record { serving = sh .serving; requests = sh .requests; mails = taken-mails;
         pendings = update-each
-            (λ a z. map pendingOf (kept-by (atBlock a) (m .memoryCommands ++ k ∷ [])) ++ map pendingIn (kept-by (writesBack a) (without (m .responses) i))
+            (λ a z. map pendingOf (kept-by (atBlock a) (m .memoryCommands ++ k ∷ []))
+                ++ map pendingIn (kept-by (writesBack a) (without (m .responses) i))
               ≡ pendingSlot z) (x .pending) b (Waiting ws)
             (rw (kept-push-yes (atBlock b) (m .memoryCommands) k (eq-eqb b b refl), slot .2, slot .1) refl)
             (λ a ne. rw (kept-push-no (atBlock a) (m .memoryCommands) k (ne-eqb b a (λ z. ne (sym z))),
               taken-other (writesBack a) (m .responses) i r e (wet a ∙ ne-eqb b a (λ z. ne (sym z)))) (sh .pendings a));
-        weights = update-each (λ t a. a ≡ weigh (commandWeight (m .geometry) t) (m .commands) + (weigh (responseWeight (m .geometry) t) (without (m .responses) i)
-              + (weigh (memoryWeight (m .geometry) t) (m .memoryCommands ++ k ∷ []) + ackOwed (m .serving t)))) fewer s (fewer s + 1)
-            (let u = rw (eq-eqb s s refl) at (weigh-push (memoryWeight (m .geometry) s) (m .memoryCommands) k) in let v = taken-weights s in omega arith)
-            (λ t ne. let u = rw (ne-eqb s t (λ z. ne (sym z))) at (weigh-push (memoryWeight (m .geometry) t) (m .memoryCommands) k) in
+        weights = update-each (λ t a. a ≡ weigh (commandWeight g t) (m .commands) + (weigh (responseWeight g t) (without (m .responses) i)
+              + (weigh (memoryWeight g t) (m .memoryCommands ++ k ∷ []) + ackOwed (m .serving t)))) fewer s (fewer s + 1)
+            (let u = rw (eq-eqb s s refl) at (weigh-push (memoryWeight g s) (m .memoryCommands) k) in let v = taken-weights s in omega arith)
+            (λ t ne. let u = rw (ne-eqb s t (λ z. ne (sym z))) at (weigh-push (memoryWeight g t) (m .memoryCommands) k) in
               let v = taken-weights t in omega arith);
         left = taken-left }
 
     invariant-passed : Invariant (ghostOf m afterPassed)
     invariant-passed = subst (λ (blocks : ℕ → BlockAtMemory). Invariant (record { geometry = m .geometry; entry = m .entry; way = m .way;
-            mailbox = afterTaken .mailbox; progress = x .progress; waiter = λ c. record { kept = m .kept c; request = x .request c }; atMemory = blocks }))
+            mailbox = afterTaken .mailbox; progress = x .progress; waiter = λ c. record { kept = m .kept c; request = x .request c };
+                atMemory = blocks }))
         (block-pending (m .memory) (x .pending) (x .latest) b (Waiting ws))
-        (pass-on-keeps (ghostOf m afterTaken) invariant-taken b ws (coming-is (x .pending b) ws (slot .0 ∙ ap (λ p. p ∷ []) brings)))
+        (pass-on-keeps (ghostOf m afterTaken) invariant-taken b ws (pending-is (x .pending b) (Coming ws) (slot .0 ∙ ap (λ p. p ∷ []) brings)))
 
     with-words : Lifted m x (close (advance passed s (m .serving s)) s)
     with-words = lifted-after m x passed afterPassed (close (advance passed s (m .serving s)) s) refl
@@ -206,24 +171,29 @@ module _ (m : Machine) (x : Added) (sh : Matches m x) (inv : Invariant (ghostOf 
     -- the machine's own tables
     passed-is : withCount (askMemory (withCount (withResponses m (without (m .responses) i)) s (m .count s - 1)) k) s
         (oneMore (withCount (withResponses m (without (m .responses) i)) s (m .count s - 1) .count s)) ≡ passed
-    passed-is = ap (λ (n : Machine). withCount (askMemory n k) s (oneMore (n .count s))) (count-is (withResponses m (without (m .responses) i)) s (m .count s - 1) low)
+    passed-is = ap (λ (n : Machine). withCount (askMemory n k) s (oneMore (n .count s)))
+        (count-is (withResponses m (without (m .responses) i)) s (m .count s - 1) low)
         ∙ count-is (askMemory taken k) s (oneMore (fewer s)) low
         ∙ ap (setCount (askMemory taken k) s) (one-more-is (fewer s) (rw (update-here (m .count) s (m .count s - 1)) (omega arith)))
 
   taken-is : withCount (withResponses m (without (m .responses) i)) s (m .count s - 1) ≡ taken
   taken-is = count-is (withResponses m (without (m .responses) i)) s (m .count s - 1) low
 
-pub response-lifts : (m : Machine) (x : Added) → Matches m x → Invariant (ghostOf m x) → Owed m → (i : ℕ) (r : Response) → nth (m .responses) i ≡ Some r
+pub response-lifts : (m : Machine) (x : Added) → Matches m x → Invariant (ghostOf m x) → Owed m → (i : ℕ) (r : Response)
+    → nth (m .responses) i ≡ Some r
     → home m (responseBlock r) < 16 → m .count (home m (responseBlock r)) ≤ 1000
     → Lifted m x (close (advance (takeResponse m i r) (home m (responseBlock r)) (m .serving (home m (responseBlock r)))) (home m (responseBlock r)))
 response-lifts m x sh inv owed i (InvalidateAck c b) e low small =
-    subst (λ n. Lifted m x (close (advance n (home m b) (m .serving (home m b))) (home m b))) (sym (taken-is m x sh inv owed i (InvalidateAck c b) e low small))
+    subst (λ n. Lifted m x (close (advance n (home m b) (m .serving (home m b))) (home m b)))
+        (sym (taken-is m x sh inv owed i (InvalidateAck c b) e low small))
     (plain m x sh inv owed i (InvalidateAck c b) e low small (λ _. refl))
 response-lifts m x sh inv owed i (CoherenceAck c b) e low small =
-    subst (λ n. Lifted m x (close (advance n (home m b) (m .serving (home m b))) (home m b))) (sym (taken-is m x sh inv owed i (CoherenceAck c b) e low small))
+    subst (λ n. Lifted m x (close (advance n (home m b) (m .serving (home m b))) (home m b)))
+        (sym (taken-is m x sh inv owed i (CoherenceAck c b) e low small))
     (plain m x sh inv owed i (CoherenceAck c b) e low small (λ _. refl))
 response-lifts m x sh inv owed i (NullWriteback c b) e low small =
-    subst (λ n. Lifted m x (close (advance n (home m b) (m .serving (home m b))) (home m b))) (sym (taken-is m x sh inv owed i (NullWriteback c b) e low small))
+    subst (λ n. Lifted m x (close (advance n (home m b) (m .serving (home m b))) (home m b)))
+        (sym (taken-is m x sh inv owed i (NullWriteback c b) e low small))
     (plain m x sh inv owed i (NullWriteback c b) e low small (λ _. refl))
 response-lifts m x sh inv owed i (Writeback c b ws) e low small =
     subst (λ n. Lifted m x (close (advance n (home m b) (m .serving (home m b))) (home m b)))

@@ -9,7 +9,7 @@ use Rattle.std.specs.shelf.Lists.{kept-by}
 use Rattle.std.specs.declared.option.Option.{Option}
 use Rattle.std.specs.declared.option.Option.the-variants.{Some}
 use Rattle.std.proofs.shelf.Tests.{eqb-true, eq-eqb, ne-eqb}
-use Rattle.bedrock.specs.Geometries.{setOf}
+use Rattle.bedrock.specs.Geometries.{Sizes, setOf}
 use Rattle.messages.specs.declared.command.Command.{Command}
 use Rattle.messages.specs.declared.command.Command.the-variants.{Transfer, SetStateWakeup}
 use Rattle.messages.specs.declared.memory_command.MemoryCommand.{MemoryCommand}
@@ -39,7 +39,8 @@ use Rattle.machine.proofs.AlmostMatches.{AlmostMatches, sent-here, sent-there,
 abbrev mailFrom : Job → Source → ℕ → Mail
 mailFrom j Memory c = Nothing
 mailFrom j OwnCopy c = cond (eqb c (j .requestor)) (To (SetStateWakeup (j .requestor) (j .block) (j .way))) Nothing
-mailFrom j (Owner o p shown keeps writeback) c = cond (eqb c o) (To (Transfer o (j .block) p (j .requestor) (j .way) keeps (j .next) writeback)) Nothing
+mailFrom j (Owner o p shown keeps writeback) c =
+    cond (eqb c o) (To (Transfer o (j .block) p (j .requestor) (j .way) keeps (j .next) writeback)) Nothing
 
 asked-is : (j : Job) (f : ℕ → ℕ → Entry) (z : Source) → j .source ≡ z → GoodSource j f z → (c : ℕ) → askedMail j c (role j c) ≡ mailFrom j z c
 asked-is j f z i ok c = go (eqb c (j .requestor)) refl z i ok
@@ -59,28 +60,32 @@ asked-is j f z i ok c = go (eqb c (j .requestor)) refl z i ok
         at false q = refl
 
 abbrev pub afterRoundOne : Added → ℕ → Job → Added
-afterRoundOne x s j = record { mailbox = update (x .mailbox) s (λ c. askedMailbox j c (x .mailbox s c)); progress = update (x .progress) s (Some (atStage Asked j));
-  request = x .request; pending = update (x .pending) (j .block) (readFor j (j .source)); latest = x .latest }
+afterRoundOne x s j = record { mailbox = update (x .mailbox) s (λ c. askedMailbox j c (x .mailbox s c));
+    progress = update (x .progress) s (Some (atStage Asked j)); request = x .request;
+    pending = update (x .pending) (j .block) (readFor j (j .source)); latest = x .latest }
 
 -- the set is at Clearing, its round one has not been left, and no cache has mail
 module _ (m : Machine) (x : Added) (j : Job) (sh : AlmostMatches m x (home m (j .block))) (inv : Invariant (ghostOf m x))
     (clearing : x .progress (home m (j .block)) ≡ Some (atStage Clearing j)) (first : ackOwed (m .serving (home m (j .block))) ≡ 1)
     (quiet : (c : ℕ) → x .mailbox (home m (j .block)) c .mail ≡ Nothing) where
+  abbrev g : Sizes
+  g = m .geometry
   abbrev s : ℕ
   s = home m (j .block)
   abbrev now : Option Transaction
   now = Some (record { job = j; round = Two })
 
-  good : GoodJob (m .geometry) s (m .entry s) j
+  good : GoodJob g s (m .entry s) j
   good = rw clearing at (inv .jobs s)
 
   idle : x .pending (j .block) ≡ Idle
   idle = rw clearing at (inv .pendings (j .block)) .1 refl
 
-  no-mail : (c : ℕ) → map To (kept-by (toMailbox (m .geometry) s c) (m .commands)) ++ map From (kept-by (fromMailbox (m .geometry) s c) (m .responses)) ≡ []
+  no-mail : (c : ℕ) → map To (kept-by (toMailbox g s c) (m .commands)) ++ map From (kept-by (fromMailbox g s c) (m .responses)) ≡ []
   no-mail c = rw (quiet c) at (sh .mails s c)
 
-  none-pending : map pendingOf (kept-by (atBlock (j .block)) (m .memoryCommands)) ++ map pendingIn (kept-by (writesBack (j .block)) (m .responses)) ≡ []
+  none-pending : map pendingOf (kept-by (atBlock (j .block)) (m .memoryCommands)) ++ map pendingIn (kept-by (writesBack (j .block)) (m .responses))
+      ≡ []
   none-pending = rw idle at (sh .pendings (j .block))
 
   same : (t : ℕ) → SameProgress (update (m .serving) s now t) (update (x .progress) s (Some (atStage Asked j)) t)
@@ -89,21 +94,21 @@ module _ (m : Machine) (x : Added) (j : Job) (sh : AlmostMatches m x (home m (j 
   mail-is : (z : Source) → j .source ≡ z → (c : ℕ) → askedMail j c (role j c) ≡ mailFrom j z c
   mail-is z i c = asked-is j (m .entry s) z i (subst (GoodSource j (m .entry s)) i (good .source)) c
 
-  sent-mails : (k : Command) → setOf (m .geometry) (commandBlock k) ≡ s → ((c : ℕ) → askedMail j c (role j c) ≡ cond (eqb c (commandCache k)) (To k) Nothing)
+  sent-mails : (k : Command) → setOf g (commandBlock k) ≡ s → ((c : ℕ) → askedMail j c (role j c) ≡ cond (eqb c (commandCache k)) (To k) Nothing)
       → (t c : ℕ)
-      → map To (kept-by (toMailbox (m .geometry) t c) (m .commands ++ k ∷ [])) ++ map From (kept-by (fromMailbox (m .geometry) t c) (m .responses))
+      → map To (kept-by (toMailbox g t c) (m .commands ++ k ∷ [])) ++ map From (kept-by (fromMailbox g t c) (m .responses))
       ≡ mailSlot (afterRoundOne x s j .mailbox t c .mail)
   sent-mails k e is = update-each (λ t f. (c : ℕ)
-      → map To (kept-by (toMailbox (m .geometry) t c) (m .commands ++ k ∷ [])) ++ map From (kept-by (fromMailbox (m .geometry) t c) (m .responses))
+      → map To (kept-by (toMailbox g t c) (m .commands ++ k ∷ [])) ++ map From (kept-by (fromMailbox g t c) (m .responses))
       ≡ mailSlot (f c .mail)) (x .mailbox) s (λ c. askedMailbox j c (x .mailbox s c))
-      (λ c. rw (is c) (sent-here (m .geometry) s (m .commands) k e (m .responses) c (no-mail c)))
-      (λ t q c. rw (sent-there (m .geometry) s (m .commands) k e t c q) (sh .mails t c))
+      (λ c. rw (is c) (sent-here g s (m .commands) k e (m .responses) c (no-mail c)))
+      (λ t q c. rw (sent-there g s (m .commands) k e t c q) (sh .mails t c))
 
-  sent-left : (k : Command) → setOf (m .geometry) (commandBlock k) ≡ s → (t : ℕ)
-      → Left (update (m .serving) s now t) (weigh (commandOne (m .geometry) t) (m .commands ++ k ∷ []) + weigh (responseWeight (m .geometry) t) (m .responses))
+  sent-left : (k : Command) → setOf g (commandBlock k) ≡ s → (t : ℕ)
+      → Left (update (m .serving) s now t) (weigh (commandOne g t) (m .commands ++ k ∷ []) + weigh (responseWeight g t) (m .responses))
   sent-left k i = update-each
-      (λ t z. Left z (weigh (commandOne (m .geometry) t) (m .commands ++ k ∷ []) + weigh (responseWeight (m .geometry) t) (m .responses))) (m .serving) s now tt
-      (λ t e. rw (ones-there (m .geometry) s (m .commands) k i t e) (sh .left t e))
+      (λ t z. Left z (weigh (commandOne g t) (m .commands ++ k ∷ []) + weigh (responseWeight g t) (m .responses))) (m .serving) s now tt
+      (λ t e. rw (ones-there g s (m .commands) k i t e) (sh .left t e))
 
   same-pending : readFor j (j .source) ≡ Idle → (b : ℕ)
       → map pendingOf (kept-by (atBlock b) (m .memoryCommands)) ++ map pendingIn (kept-by (writesBack b) (m .responses))
@@ -116,22 +121,24 @@ module _ (m : Machine) (x : Added) (j : Job) (sh : AlmostMatches m x (home m (j 
   matches-from Memory i = record {
       serving = same; requests = sh .requests;
       mails = update-each (λ t f. (c : ℕ)
-          → map To (kept-by (toMailbox (m .geometry) t c) (m .commands)) ++ map From (kept-by (fromMailbox (m .geometry) t c) (m .responses))
+          → map To (kept-by (toMailbox g t c) (m .commands)) ++ map From (kept-by (fromMailbox g t c) (m .responses))
           ≡ mailSlot (f c .mail)) (x .mailbox) s (λ c. askedMailbox j c (x .mailbox s c))
           (λ c. rw (mail-is Memory i c) (no-mail c)) (λ t _. sh .mails t);
       pendings = update-each
-          (λ b z. map pendingOf (kept-by (atBlock b) (m .memoryCommands ++ k ∷ [])) ++ map pendingIn (kept-by (writesBack b) (m .responses)) ≡ pendingSlot z)
+          (λ b z. map pendingOf (kept-by (atBlock b) (m .memoryCommands ++ k ∷ [])) ++ map pendingIn (kept-by (writesBack b) (m .responses))
+              ≡ pendingSlot z)
           (x .pending) (j .block) (readFor j (j .source))
-          (let z = both-none pendingOf pendingIn (kept-by (atBlock (j .block)) (m .memoryCommands)) (kept-by (writesBack (j .block)) (m .responses)) none-pending in
+          (let z = both-none pendingOf pendingIn (kept-by (atBlock (j .block)) (m .memoryCommands))
+              (kept-by (writesBack (j .block)) (m .responses)) none-pending in
             rw (kept-push-yes (atBlock (j .block)) (m .memoryCommands) k (eq-eqb (j .block) (j .block) refl), z .0, z .1, i) refl)
           (λ b e. rw (kept-push-no (atBlock b) (m .memoryCommands) k (ne-eqb (j .block) b (λ q. e (sym q)))) (sh .pendings b));
-      weights = update-both (λ t a z. a ≡ weigh (commandWeight (m .geometry) t) (m .commands)
-            + (weigh (responseWeight (m .geometry) t) (m .responses) + (weigh (memoryWeight (m .geometry) t) (m .memoryCommands ++ k ∷ []) + ackOwed z)))
+      weights = update-both (λ t a z. a ≡ weigh (commandWeight g t) (m .commands)
+            + (weigh (responseWeight g t) (m .responses) + (weigh (memoryWeight g t) (m .memoryCommands ++ k ∷ []) + ackOwed z)))
           (m .count) (m .serving) s (m .count s + 1) now
-          (let u = rw (eq-eqb s s refl) at (weigh-push (memoryWeight (m .geometry) s) (m .memoryCommands) k) in let v = sh .weights s in omega arith)
-          (λ t e. let u = rw (ne-eqb s t (λ q. e (sym q))) at (weigh-push (memoryWeight (m .geometry) t) (m .memoryCommands) k) in
+          (let u = rw (eq-eqb s s refl) at (weigh-push (memoryWeight g s) (m .memoryCommands) k) in let v = sh .weights s in omega arith)
+          (λ t e. let u = rw (ne-eqb s t (λ q. e (sym q))) at (weigh-push (memoryWeight g t) (m .memoryCommands) k) in
             let v = sh .weights t in omega arith);
-      left = update-each (λ t z. Left z (weigh (commandOne (m .geometry) t) (m .commands) + weigh (responseWeight (m .geometry) t) (m .responses)))
+      left = update-each (λ t z. Left z (weigh (commandOne g t) (m .commands) + weigh (responseWeight g t) (m .responses)))
           (m .serving) s now tt (λ t e. sh .left t e) }
     where
       k : MemoryCommand
@@ -140,11 +147,11 @@ module _ (m : Machine) (x : Added) (j : Job) (sh : AlmostMatches m x (home m (j 
       serving = same; requests = sh .requests;
       mails = sent-mails k refl (λ c. mail-is OwnCopy i c);
       pendings = same-pending (rw i refl);
-      weights = update-each (λ t z. m .count t ≡ weigh (commandWeight (m .geometry) t) (m .commands ++ k ∷ [])
-            + (weigh (responseWeight (m .geometry) t) (m .responses) + (weigh (memoryWeight (m .geometry) t) (m .memoryCommands) + ackOwed z)))
+      weights = update-each (λ t z. m .count t ≡ weigh (commandWeight g t) (m .commands ++ k ∷ [])
+            + (weigh (responseWeight g t) (m .responses) + (weigh (memoryWeight g t) (m .memoryCommands) + ackOwed z)))
           (m .serving) s now
-          (let u = rw (eq-eqb s s refl) at (weigh-push (commandWeight (m .geometry) s) (m .commands) k) in let v = sh .weights s in omega arith)
-          (λ t e. let u = rw (ne-eqb s t (λ q. e (sym q))) at (weigh-push (commandWeight (m .geometry) t) (m .commands) k) in
+          (let u = rw (eq-eqb s s refl) at (weigh-push (commandWeight g s) (m .commands) k) in let v = sh .weights s in omega arith)
+          (λ t e. let u = rw (ne-eqb s t (λ q. e (sym q))) at (weigh-push (commandWeight g t) (m .commands) k) in
             let v = sh .weights t in omega arith);
       left = sent-left k refl }
     where
@@ -154,12 +161,12 @@ module _ (m : Machine) (x : Added) (j : Job) (sh : AlmostMatches m x (home m (j 
       serving = same; requests = sh .requests;
       mails = sent-mails k refl (λ c. mail-is (Owner o p shown keeps writeback) i c);
       pendings = same-pending (rw i refl);
-      weights = update-both (λ t a z. a ≡ weigh (commandWeight (m .geometry) t) (m .commands ++ k ∷ [])
-            + (weigh (responseWeight (m .geometry) t) (m .responses) + (weigh (memoryWeight (m .geometry) t) (m .memoryCommands) + ackOwed z)))
+      weights = update-both (λ t a z. a ≡ weigh (commandWeight g t) (m .commands ++ k ∷ [])
+            + (weigh (responseWeight g t) (m .responses) + (weigh (memoryWeight g t) (m .memoryCommands) + ackOwed z)))
           (m .count) (m .serving) s (m .count s + cond writeback 1 0) now
-          (let u = rw (eq-eqb s s refl) at (weigh-push (commandWeight (m .geometry) s) (m .commands) k) in
+          (let u = rw (eq-eqb s s refl) at (weigh-push (commandWeight g s) (m .commands) k) in
             let v = sh .weights s in let w = heavier writeback in omega arith)
-          (λ t e. let u = rw (ne-eqb s t (λ q. e (sym q))) at (weigh-push (commandWeight (m .geometry) t) (m .commands) k) in
+          (λ t e. let u = rw (ne-eqb s t (λ q. e (sym q))) at (weigh-push (commandWeight g t) (m .commands) k) in
             let v = sh .weights t in omega arith);
       left = sent-left k refl }
     where
@@ -176,7 +183,8 @@ module _ (m : Machine) (x : Added) (j : Job) (sh : AlmostMatches m x (home m (j 
       all = subst (λ (blocks : ℕ → BlockAtMemory). Invariant (record { geometry = m .geometry; entry = m .entry; way = m .way;
               mailbox = afterRoundOne x s j .mailbox; progress = afterRoundOne x s j .progress;
               waiter = λ c. record { kept = m .kept c; request = x .request c }; atMemory = blocks }))
-          (block-pending (m .memory) (x .pending) (x .latest) (j .block) (readFor j (j .source))) (round-two-keeps (ghostOf m x) inv s j clearing quiet)
+          (block-pending (m .memory) (x .pending) (x .latest) (j .block) (readFor j (j .source)))
+              (round-two-keeps (ghostOf m x) inv s j clearing quiet)
       go : (z : Source) → Invariant (ghostOf (setServing (ask m j z) s now) (afterRoundOne x s j))
       go Memory = all
       go OwnCopy = all

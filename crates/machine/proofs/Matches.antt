@@ -166,6 +166,11 @@ slot-is Nothing k e = cc
 slot-is (To x) k e = cc
 slot-is (From x) k e = cc
 
+pub slot-from : (x : Mail) (k : Response) → mailSlot x ≡ From k ∷ [] → x ≡ From k
+slot-from Nothing k e = cc
+slot-from (To x) k e = cc
+slot-from (From x) k e = cc
+
 -- the command that arrives is its mailbox's mail
 pub took-command : (m : Machine) (x : Added) → Matches m x → (i : ℕ) (k : Command) → nth (m .commands) i ≡ Some k → (s c : ℕ)
     → s ≡ setOf (m .geometry) (commandBlock k) → c ≡ commandCache k

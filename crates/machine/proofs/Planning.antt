@@ -1,6 +1,6 @@
 -- What the machine decides about a request is a plan.
 use mathlib.Core.Path.{_≡_, refl, sym, _∙_, ap, subst}
-use mathlib.Core.Bool.{Bool, true, false, cond, _&&_}
+use mathlib.Core.Bool.{Bool, true, false, cond}
 use mathlib.Core.Logic.{_⊎_, inl, inr}
 use Prim.Native.Nat.{ℕ, _<_}
 use lib.Dec.{eqb}
@@ -8,18 +8,17 @@ use Rattle.std.specs.declared.option.Option.{Option}
 use Rattle.std.specs.declared.option.Option.the-variants.{Some, None}
 use Rattle.std.proofs.shelf.Tests.{false≢true, eqb-true, eqb-false, and-from, and-parts}
 use Rattle.protocols.specs.declared.state.State.{State}
-use Rattle.protocols.specs.declared.state.State.the-variants.{I, S, O, F}
+use Rattle.protocols.specs.declared.state.State.the-variants.{S, O, F}
 use Rattle.protocols.specs.declared.row.Row.{Row}
 use Rattle.protocols.specs.States.{held, owning, writable, dirty}
 use Rattle.protocols.specs.Rows.{writeRow}
 use Rattle.messages.specs.declared.request.Request.{Request}
 use Rattle.machine.specs.declared.holding.Entry.{Entry}
-use Rattle.machine.specs.declared.transaction.Source.{Source}
-use Rattle.machine.specs.declared.transaction.Source.the-variants.{Memory, OwnCopy, Owner}
+use Rattle.machine.specs.declared.transaction.Source.the-variants.{Owner}
 use Rattle.machine.specs.Tables.{lowest}
 use Rattle.machine.specs.Holdings.{entryIn, isWrite}
 use Rattle.machine.specs.Machines.{Machine, home}
-use Rattle.machine.specs.Directory.{shownWay, shownState, sharing, owner, unowned, stateBy, view, orZero, found}
+use Rattle.machine.specs.Directory.{shownWay, shownState, sharing, owner, unowned, stateBy, orZero, found}
 use Rattle.machine.specs.Acceptance.{rowFor, upgrading, unownedSource, sourceBy, jobFor}
 use Rattle.machine.proofs.Ranges.{Bounds, cache-below, way-below}
 use Rattle.machine.proofs.RowLaws.{OwnedRow, LawfulRow}
@@ -111,7 +110,8 @@ module _ (m : Machine) (x : Added) (inv : Invariant (ghostOf m x)) (lawful : (st
   by-owner : (o : ℕ) → owner m (q .block) ≡ Some o → (o ≡ q .cache → ⊥)
       → OwnerPlan f (jobFor m q) o (orZero (shownWay m o (q .block))) (shownState m o (q .block)) (rowFor m q .owner) (rowFor m q .writeback)
   by-owner o e n = record { other = n; owned = owns o e; at = at-it; letsGo = lets (isWrite (q .access)) refl;
-      covered = covers (isWrite (q .access)) refl; pair = λ h. pairs (isWrite (q .access)) refl h; sole = λ w. sole w (writable (row .requestor)) refl }
+      covered = covers (isWrite (q .access)) refl; pair = λ h. pairs (isWrite (q .access)) refl h;
+          sole = λ w. sole w (writable (row .requestor)) refl }
     where
       it : ShownAt m o (q .block)
       it = shown-held m o (q .block) (owning-held (shownState m o (q .block)) (owns o e))
@@ -165,7 +165,8 @@ module _ (m : Machine) (x : Added) (inv : Invariant (ghostOf m x)) (lawful : (st
       copy : (z : Option ℕ) → shownWay m (q .cache) (q .block) ≡ z → found z ≡ true
           → (f (q .cache) (q .way) .block ≡ q .block) × (readOnly (f (q .cache) (q .way) .state) ≡ true)
       copy None e s = absurd (false≢true s)
-      copy (Some w) e s = let a = shown-entry m (q .cache) (q .block) w e in let p = placed w (a .0) (a .1) in (rw (p .0) at (a .1), rw (p .0) at (p .2))
+      copy (Some w) e s = let a = shown-entry m (q .cache) (q .block) w e in
+          let p = placed w (a .0) (a .1) in (rw (p .0) at (a .1), rw (p .0) at (p .2))
 
   -- another owner is a cache that there is, and so is its way
   pub owner-in-range : Bounds (m .geometry) → OwnerInRange (jobFor m q .source)

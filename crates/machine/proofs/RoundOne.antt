@@ -27,7 +27,7 @@ use Rattle.machine.specs.Acceptance.{upgrading, evict, dismiss, firstRound}
 use Rattle.machine.proofs.Weights.{weigh}
 use Rattle.machine.proofs.Ghost.{Mail, Nothing, To}
 use Rattle.machine.proofs.Matches.{mailSlot, toMailbox, commandWeight, commandOne}
-use Rattle.machine.proofs.ShownEntries.{EntriesInRange, ShownAt, shown-held}
+use Rattle.machine.proofs.ShownEntries.{EntriesInRange, shown-held}
 
 -- ---- commands of one set, each with one answer
 
@@ -60,10 +60,6 @@ pub kept-else : (n : Sizes) (s t c : ℕ) → (t ≡ s → ⊥) → (xs : List C
 kept-else n s t c ne [] p = refl
 kept-else n s t c ne (k ∷ ks) p = let r = kept-else n s t c ne ks (p .2) in rw (ne-eqb (setOf n (commandBlock k)) t (λ z. ne (sym z ∙ p .0))) r
 
-pub weigh-append : {A : Type 0} (f : A → ℕ) (xs ys : List A) → weigh f (xs ++ ys) ≡ weigh f xs + weigh f ys
-weigh-append f [] ys = omega arith
-weigh-append f (x ∷ xs) ys = let h = weigh-append f xs ys in omega arith
-
 -- ---- what goes to the sharers
 
 module _ (m : Machine) (r b : ℕ) where
@@ -86,7 +82,8 @@ module _ (m : Machine) (r b : ℕ) where
   sent-key c d = go (sharing (shownState m c b) && not (eqb c r))
     where
       at : (t : Bool) → eqb c d ≡ t
-          → kept-by (toMailbox (m .geometry) (home m b) d) (Invalidate c b (orZero (shownWay m c b)) ∷ []) ≡ cond t (Invalidate c b (orZero (shownWay m c b)) ∷ []) []
+          → kept-by (toMailbox (m .geometry) (home m b) d) (Invalidate c b (orZero (shownWay m c b)) ∷ [])
+              ≡ cond t (Invalidate c b (orZero (shownWay m c b)) ∷ []) []
       at true e = rw (eq-eqb (home m b) (home m b) refl, e) refl
       at false e = rw (eq-eqb (home m b) (home m b) refl, e) refl
       flat : (t : Bool) → [] ≡ cond {A = List Command} t [] []
@@ -110,7 +107,8 @@ module _ (m : Machine) (r b : ℕ) where
     where
       none : d < 0 → ⊥
       none l = omega arith
-  dismiss-below (suc k) d l = kept-by-append (toMailbox (m .geometry) (home m b) d) (dismiss m r b k) (sentTo k) ∙ go (cases-eq k d) (dismiss-below k d)
+  dismiss-below (suc k) d l = kept-by-append (toMailbox (m .geometry) (home m b) d) (dismiss m r b k) (sentTo k)
+      ∙ go (cases-eq k d) (dismiss-below k d)
     where
       go : (k ≡ d) ⊎ (k ≡ d → ⊥) → (d < k → kept-by (toMailbox (m .geometry) (home m b) d) (dismiss m r b k) ≡ sentTo d)
           → kept-by (toMailbox (m .geometry) (home m b) d) (dismiss m r b k) ++ kept-by (toMailbox (m .geometry) (home m b) d) (sentTo k) ≡ sentTo d
@@ -192,10 +190,12 @@ module _ (m : Machine) (q : Request) where
         go false false i d = none-to (m .geometry) (home m (q .block)) (q .cache)
         go false true i true =
             one-to (m .geometry) (home m (q .block)) (q .cache) (SetStateWriteback (q .cache) (e .block) (q .way)) refl (homed i) (λ _. refl)
-        go false true i false = one-to (m .geometry) (home m (q .block)) (q .cache) (Invalidate (q .cache) (e .block) (q .way)) refl (homed i) (λ _. refl)
+        go false true i false = one-to (m .geometry) (home m (q .block)) (q .cache) (Invalidate (q .cache) (e .block) (q .way)) refl (homed i)
+            (λ _. refl)
 
     pub first-in : InSet (m .geometry) (home m (q .block)) (firstRound m q)
-    first-in = in-append (m .geometry) (home m (q .block)) ownCommand (cond (isWrite (q .access)) (dismiss m (q .cache) (q .block) (m .geometry .caches)) [])
+    first-in = in-append (m .geometry) (home m (q .block)) ownCommand
+        (cond (isWrite (q .access)) (dismiss m (q .cache) (q .block) (m .geometry .caches)) [])
         (own-one .1) (go (isWrite (q .access)))
       where
         go : (t : Bool) → InSet (m .geometry) (home m (q .block)) (cond t (dismiss m (q .cache) (q .block) (m .geometry .caches)) [])
@@ -213,7 +213,8 @@ module _ (m : Machine) (q : Request) where
         key true = dismiss-key m (q .cache) (q .block) ranged c
         key false = refl
         mine : c ≡ q .cache → (t u : Bool) → eqb c (q .cache) ≡ u
-            → cond t (cond (sharing (shownState m c (q .block)) && not u) (Invalidate c (q .block) (orZero (shownWay m c (q .block))) ∷ []) []) [] ≡ []
+            → cond t (cond (sharing (shownState m c (q .block)) && not u) (Invalidate c (q .block) (orZero (shownWay m c (q .block))) ∷ []) []) []
+                ≡ []
         mine z true true i = at (sharing (shownState m c (q .block)))
           where
             at : (t : Bool) → cond (t && false) (Invalidate c (q .block) (orZero (shownWay m c (q .block))) ∷ []) [] ≡ []

@@ -1,6 +1,6 @@
 -- The directory's searches and its entries: a state that is shown is an entry's, and an entry that is held is shown.
 use mathlib.Core.Path.{_≡_, refl, sym, _∙_, ap}
-use mathlib.Core.Bool.{Bool, true, false, _&&_}
+use mathlib.Core.Bool.{Bool, true, _&&_}
 use mathlib.Core.Logic.{_⊎_, inl, inr}
 use Prim.Native.Nat.{ℕ, _<_}
 use lib.Dec.{eqb}
@@ -39,7 +39,8 @@ module _ (m : Machine) where
 
   shown-some : (c b w : ℕ) → shownWay m c b ≡ Some w → ShownAt m c b
   shown-some c b w e = let p = shown-entry c b w e in
-      record { way = w; shown = e; isHeld = p .0; block = p .1; state = ap (stateAt m c b) e; below = lowest-below (passes c b) (m .geometry .ways) w e }
+      record { way = w; shown = e; isHeld = p .0; block = p .1; state = ap (stateAt m c b) e;
+          below = lowest-below (passes c b) (m .geometry .ways) w e }
 
   -- a state that is shown is an entry's
   pub shown-held : (c b : ℕ) → held (shownState m c b) ≡ true → ShownAt m c b
@@ -56,7 +57,8 @@ module _ (m : Machine) where
     where
       go : (o : Option ℕ) → shownWay m c b ≡ o → shownWay m c b ≡ Some w
       go None e = absurd (false≢true (sym (lowest-none (passes c b) (m .geometry .ways) e w (ranged (home m b) c w h .1))
-          ∙ and-from (held (m .entry (home m b) c w .state)) (eqb (m .entry (home m b) c w .block) b) h (eq-eqb (m .entry (home m b) c w .block) b k)))
+          ∙ and-from (held (m .entry (home m b) c w .state)) (eqb (m .entry (home m b) c w .block) b) h
+              (eq-eqb (m .entry (home m b) c w .block) b k)))
       go (Some v) e = at (cases-eq v w)
         where
           p : (held (m .entry (home m b) c v .state) ≡ true) × (m .entry (home m b) c v .block ≡ b)

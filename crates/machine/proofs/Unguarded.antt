@@ -24,12 +24,14 @@ use Rattle.machine.proofs.Rooms.{one-more-is}
 -- ---- one table changed
 
 abbrev servingOf : Machine → (ℕ → Option Transaction) → Machine
-servingOf m f = record { geometry = m .geometry; rows = m .rows; way = m .way; entry = m .entry; kept = m .kept; turn = m .turn; serving = f; count = m .count;
-  memory = m .memory; requests = m .requests; commands = m .commands; responses = m .responses; memoryCommands = m .memoryCommands }
+servingOf m f = record { geometry = m .geometry; rows = m .rows; way = m .way; entry = m .entry; kept = m .kept; turn = m .turn;
+    serving = f; count = m .count; memory = m .memory;
+    requests = m .requests; commands = m .commands; responses = m .responses; memoryCommands = m .memoryCommands }
 
 abbrev countOf : Machine → (ℕ → ℕ) → Machine
-countOf m f = record { geometry = m .geometry; rows = m .rows; way = m .way; entry = m .entry; kept = m .kept; turn = m .turn; serving = m .serving; count = f;
-  memory = m .memory; requests = m .requests; commands = m .commands; responses = m .responses; memoryCommands = m .memoryCommands }
+countOf m f = record { geometry = m .geometry; rows = m .rows; way = m .way; entry = m .entry; kept = m .kept; turn = m .turn;
+    serving = m .serving; count = f; memory = m .memory;
+    requests = m .requests; commands = m .commands; responses = m .responses; memoryCommands = m .memoryCommands }
 
 abbrev pub setServing : Machine → ℕ → Option Transaction → Machine
 setServing m s v = servingOf m (update (m .serving) s v)
@@ -67,7 +69,8 @@ module _ (m : Machine) (j : Job) (low : home m (j .block) < 16) (small : m .coun
   ask-is : (z : Source) → fetch m j z ≡ ask m j z
   ask-is Memory =
       count-is (askMemory m (Read (j .block) (j .requestor) (j .way) (j .next))) (home m (j .block)) (oneMore (m .count (home m (j .block)))) low
-      ∙ ap (setCount (askMemory m (Read (j .block) (j .requestor) (j .way) (j .next))) (home m (j .block))) (one-more-is (m .count (home m (j .block))) small)
+      ∙ ap (setCount (askMemory m (Read (j .block) (j .requestor) (j .way) (j .next))) (home m (j .block)))
+          (one-more-is (m .count (home m (j .block))) small)
   ask-is OwnCopy = refl
   ask-is (Owner o p shown keeps writeback) =
       count-is sent (home m (j .block)) (cond writeback (oneMore n) n) low ∙ ap (setCount sent (home m (j .block))) (both writeback)
@@ -95,7 +98,8 @@ setEntries m s f = entriesOf m (update (m .entry) s f)
 abbrev pub enter : Machine → Job → ℕ → Machine
 enter m j n =
     setCount
-    (setServing (setEntries m (home m (j .block)) (settle j (m .entry (home m (j .block))))) (home m (j .block)) (Some (record { job = j; round = One n })))
+    (setServing (setEntries m (home m (j .block)) (settle j (m .entry (home m (j .block))))) (home m (j .block))
+        (Some (record { job = j; round = One n })))
     (home m (j .block)) (1 + n)
 
 pub record-is : (m : Machine) (j : Job) (n : ℕ) → home m (j .block) < 16 → j .requestor < 8 → j .way < 4 → OwnerInRange (j .source)
