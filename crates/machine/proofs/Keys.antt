@@ -2,7 +2,7 @@
 use mathlib.Core.Path.{_≡_, refl, sym, _∙_}
 use mathlib.Core.Bool.{Bool, true, false}
 use mathlib.Core.List.{List, [], _∷_, _++_, map}
-use Prim.Native.Nat.{ℕ, zero, suc, _≤_}
+use Prim.Native.Nat.{ℕ, zero, suc, _<_, _≤_}
 use native.Mathlib.Omega.{arith}
 use lib.ListN.{length}
 use Rattle.std.specs.Finite.{nth}
@@ -56,6 +56,27 @@ only-left {A} {B} {C} f h p xs us i x ms e t k short = go (kept-by p xs) refl us
       where
         long : length (f z ∷ f y ∷ (map f ks ++ map h us)) ≤ 1 → ⊥
         long l = omega arith
+
+long-append : {C : Type 0} (xs : List C) (y : C) (ys : List C) → 0 < length (xs ++ y ∷ ys)
+long-append [] y ys = omega arith
+long-append (x ∷ xs) y ys = omega arith
+
+-- and where the second has it
+pub only-right : {A B C : Type 0} (f : A → C) (h : B → C) (us : List A) (p : B → Bool) (xs : List B) (i : ℕ) (x : B) (ms : List C) → nth xs i ≡ Some x
+    → p x ≡ true → map f us ++ map h (kept-by p xs) ≡ ms → length ms ≤ 1 → (ms ≡ h x ∷ []) × (kept-by p (without xs i) ≡ []) × (us ≡ [])
+only-right {A} {B} {C} f h us p xs i x ms e t k short = go (kept-by p xs) refl us refl
+  where
+    go : (ks : List B) → kept-by p xs ≡ ks → (vs : List A) → us ≡ vs → (ms ≡ h x ∷ []) × (kept-by p (without xs i) ≡ []) × (us ≡ [])
+    go [] q vs r = absurd (kept-none p xs i x e t q)
+    go (z ∷ []) q [] r = let o = taken-one p xs i x z e t q in (sym k ∙ rw (q, r, o .0) refl, o .1, r)
+    go (z ∷ y ∷ ks) q [] r = absurd (long (rw (sym k, q, r) at short))
+      where
+        long : length (h z ∷ h y ∷ map h ks) ≤ 1 → ⊥
+        long l = omega arith
+    go (z ∷ ks) q (v ∷ vs) r = absurd (long (rw (sym k, q, r) at short))
+      where
+        long : length (f v ∷ (map f vs ++ h z ∷ map h ks)) ≤ 1 → ⊥
+        long l = let a = long-append (map f vs) (h z) (map h ks) in omega arith
 
 -- one element comes last: it fails the test, or passes it
 pub kept-push-no : {A : Type 0} (p : A → Bool) (xs : List A) (x : A) → p x ≡ false → kept-by p (xs ++ x ∷ []) ≡ kept-by p xs

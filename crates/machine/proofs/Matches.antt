@@ -1,5 +1,5 @@
 -- A machine and its ghost state match: at each key the lists hold the one message that the ghost state has, and counts are weights.
-use mathlib.Core.Path.{_≡_, sym}
+use mathlib.Core.Path.{_≡_, refl, sym}
 use mathlib.Core.Bool.{Bool, false, cond, _&&_}
 use mathlib.Core.List.{List, [], _∷_, _++_, map}
 use Prim.Native.Nat.{ℕ, _+_, _<_, _≤_}
@@ -166,6 +166,11 @@ slot-is Nothing k e = cc
 slot-is (To x) k e = cc
 slot-is (From x) k e = cc
 
+pub slot-from : (x : Mail) (k : Response) → mailSlot x ≡ From k ∷ [] → x ≡ From k
+slot-from Nothing k e = cc
+slot-from (To x) k e = cc
+slot-from (From x) k e = cc
+
 -- the command that arrives is its mailbox's mail
 pub took-command : (m : Machine) (x : Added) → Matches m x → (i : ℕ) (k : Command) → nth (m .commands) i ≡ Some k → (s c : ℕ)
     → s ≡ setOf (m .geometry) (commandBlock k) → c ≡ commandCache k
@@ -177,3 +182,25 @@ took-command m x sh i k e s c p q =
     let r = only-left To From (toMailbox (m .geometry) s c) (m .commands) (kept-by (fromMailbox (m .geometry) s c) (m .responses)) i k
           (mailSlot (x .mailbox s c .mail)) e there (sh .mails s c) (slot-short (x .mailbox s c .mail)) in
     (slot-is (x .mailbox s c .mail) k (r .0), r .1, r .2)
+
+pub pending-short : (p : Pending) → length (pendingSlot p) ≤ 1
+pending-short Idle = omega arith
+pending-short (Reading c w st) = omega arith
+pending-short (Coming ws) = omega arith
+pending-short (Waiting ws) = omega arith
+
+pub pending-is : (p q : Pending) → pendingSlot p ≡ q ∷ [] → p ≡ q
+pending-is Idle q e = cc
+pending-is (Reading c w st) q e = cc
+pending-is (Coming ws) q e = cc
+pending-is (Waiting ws) q e = cc
+
+-- the memory command whose turn it is is what its block has on its way
+pub took-memory-command : (m : Machine) (x : Added) → Matches m x → (i : ℕ) (k : MemoryCommand) → nth (m .memoryCommands) i ≡ Some k
+    → (x .pending (memoryCommandBlock k) ≡ pendingOf k)
+      × (kept-by (atBlock (memoryCommandBlock k)) (without (m .memoryCommands) i) ≡ []) × (kept-by (writesBack (memoryCommandBlock k)) (m .responses) ≡ [])
+took-memory-command m x sh i k e =
+    let b : ℕ = memoryCommandBlock k in
+    let r = only-left pendingOf pendingIn (atBlock b) (m .memoryCommands) (kept-by (writesBack b) (m .responses)) i k (pendingSlot (x .pending b)) e
+          (eq-eqb b b refl) (sh .pendings b) (pending-short (x .pending b)) in
+    (pending-is (x .pending b) (pendingOf k) (r .0), r .1, r .2)

@@ -24,6 +24,11 @@ pub weigh-push : {A : Type 0} (f : A → ℕ) (xs : List A) (x : A) → weigh f 
 weigh-push f [] x = omega arith
 weigh-push f (y ∷ ys) x = let h = weigh-push f ys x in omega arith
 
+-- many come last
+pub weigh-append : {A : Type 0} (f : A → ℕ) (xs ys : List A) → weigh f (xs ++ ys) ≡ weigh f xs + weigh f ys
+weigh-append f [] ys = omega arith
+weigh-append f (x ∷ xs) ys = let h = weigh-append f xs ys in omega arith
+
 -- what weighs nothing has no element that passes
 pub weigh-none : {A : Type 0} (f : A → ℕ) (p : A → Bool) → ((a : A) → p a ≡ true → 0 < f a) → (xs : List A) → weigh f xs ≡ 0 → kept-by p xs ≡ []
 weigh-none f p pos [] e = refl
