@@ -1,4 +1,4 @@
--- Set Tag with SetTagData, Set State with Wakeup: the requestor is filled
+-- The requestor is filled, by Set Tag with Data or Set State with Wakeup: what that leaves of every part of the invariant.
 use mathlib.Core.Path.{_≡_, refl, sym, _∙_, ap}
 use mathlib.Core.Bool.{Bool, true, false}
 use mathlib.Core.Logic.{_⊎_, inl, inr}

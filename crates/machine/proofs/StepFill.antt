@@ -1,4 +1,4 @@
--- SetTagData arrives; a Wakeup arrives
+-- A Set Tag with Data that arrives, and a Set State with Wakeup, keep the invariant: the requestor is filled.
 use mathlib.Core.Path.{_≡_, refl}
 use mathlib.Core.Logic.{_⊎_, inr, ⊎-elim}
 use Prim.Native.Nat.{ℕ}
