@@ -29,9 +29,9 @@ run-reaches content (a ∷ calls) m past x r fresh = let q = call-keeps content 
 
 -- ---- with nothing on its way
 
-without-request : (q : Option Request) → [] ≡ requestSlot q → q ≡ None
-without-request None e = refl
-without-request (Some q) e = cc
+asks-nothing : (q : Option Request) → [] ≡ requestSlot q → q ≡ None
+asks-nothing None e = refl
+asks-nothing (Some q) e = cc
 
 -- nothing is owed
 quiet-count : (m : Machine) (x : Added) → Matches m x → Quiet m → (s : ℕ) → m .count s ≡ 0
@@ -55,7 +55,7 @@ no-progress (Some t) h a e = cc
 
 quiet-settled : (content : ℕ → Words) (m : Machine) (past : List Event) (x : Added) → Reached content m past x → Quiet m → Settled m
 quiet-settled content m past x r q = record {
-  noneWaits = settled-idle (ghostOf m x) (r .inv) idle (λ c. without-request (x .request c) (rw (q .noRequests) at (r .matches .requests c)));
+  noneWaits = settled-idle (ghostOf m x) (r .inv) idle (λ c. asks-nothing (x .request c) (rw (q .noRequests) at (r .matches .requests c)));
   noneOwed = quiet-count m x (r .matches) q;
   agrees = settled-agrees (ghostOf m x) (r .inv) idle }
   where
