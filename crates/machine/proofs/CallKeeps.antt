@@ -66,7 +66,8 @@ module _ (content : ℕ → Words) (m : Machine) (past : List Event) (x : Added)
   tested a false n o k = k refl
 
   -- a call that finishes no order and begins none
-  moved : (a : Call) → ((c : ℕ) → waitingOrder c (record { call = a; says = movedOn } ∷ past) ≡ waitingOrder c past) → (n : Machine) → Lifted m x n → Rooms n
+  moved : (a : Call) → ((c : ℕ) → waitingOrder c (record { call = a; says = movedOn } ∷ past) ≡ waitingOrder c past) → (n : Machine)
+      → Lifted m x n → Rooms n
       → Keeps content m past a (moveOn n)
   moved a same n l room = (l .added, record {
       bounds = subst Bounds (sym (l .geometry)) (r .bounds); lawful = subst Lawful (sym (l .rows)) (r .lawful);
@@ -79,7 +80,8 @@ module _ (content : ℕ → Words) (m : Machine) (past : List Event) (x : Added)
 
   -- ---- orders
 
-  missed : (c : ℕ) (o : Order) → wordAsked o < 2 → m .kept c ≡ None → c < m .geometry .caches → blockOf o < m .geometry .blocks → (at : Option ℕ) → Misses m c o at
+  missed : (c : ℕ) (o : Order) → wordAsked o < 2 → m .kept c ≡ None → c < m .geometry .caches → blockOf o < m .geometry .blocks → (at : Option ℕ)
+      → Misses m c o at
       → Keeps content m past (orders c o) (miss m c o at)
   missed c o small free cache block at y = miss-lifts content m past x r c o small free cache block at y (refusal (orders c o) 14)
 
@@ -97,7 +99,8 @@ module _ (content : ℕ → Words) (m : Machine) (past : List Event) (x : Added)
   ordered c o = tested (orders c o) (leb (m .geometry .caches) c) 1 known-block
       (λ i. tested (orders c o) (leb (m .geometry .blocks) (blockOf o)) 2 known-word
       (λ j. tested (orders c o) (leb 2 (wordAsked o)) 3 (unless-waiting (m .kept c))
-      (λ k. waits (leb-false (m .geometry .caches) c i) (leb-false (m .geometry .blocks) (blockOf o) j) (leb-false 2 (wordAsked o) k) (m .kept c) refl)))
+      (λ k. waits (leb-false (m .geometry .caches) c i) (leb-false (m .geometry .blocks) (blockOf o) j) (leb-false 2 (wordAsked o) k)
+          (m .kept c) refl)))
     where
       unless-waiting : Option Order → Outcome
       unless-waiting q = elim q [ Some kept ↦ refuse m 11 | None ↦ orderAt m c o (holdingWay m c (blockOf o)) ]
@@ -105,7 +108,8 @@ module _ (content : ℕ → Words) (m : Machine) (past : List Event) (x : Added)
       known-word = cond (leb 2 (wordAsked o)) (refuse m 3) (unless-waiting (m .kept c))
       known-block : Outcome
       known-block = cond (leb (m .geometry .blocks) (blockOf o)) (refuse m 2) known-word
-      at : c < m .geometry .caches → blockOf o < m .geometry .blocks → wordAsked o < 2 → m .kept c ≡ None → (q : Option ℕ) → holdingWay m c (blockOf o) ≡ q
+      at : c < m .geometry .caches → blockOf o < m .geometry .blocks → wordAsked o < 2 → m .kept c ≡ None → (q : Option ℕ)
+          → holdingWay m c (blockOf o) ≡ q
           → Keeps content m past (orders c o) (orderAt m c o q)
       at cache block small free None e = missed c o small free cache block None e
       at cache block small free (Some w) e = at-way c o w small free cache block (found-holding m c (blockOf o) w e)
@@ -124,7 +128,8 @@ module _ (content : ℕ → Words) (m : Machine) (past : List Event) (x : Added)
       go : (t : Bool) → cond t (leb 128 (length (m .memoryCommands))) (leb 128 (length (m .commands))) ≡ false → RoomFor m (cond t 0 1) (cond t 1 0)
       go true e = record { requests = r .rooms .requests; responses = r .rooms .responses; commands = let h = r .rooms .commands in omega arith;
           memoryCommands = let h = leb-false 128 (length (m .memoryCommands)) e in omega arith }
-      go false e = record { requests = r .rooms .requests; responses = r .rooms .responses; memoryCommands = let h = r .rooms .memoryCommands in omega arith;
+      go false e = record { requests = r .rooms .requests; responses = r .rooms .responses; memoryCommands = let h = r .rooms .memoryCommands in
+          omega arith;
           commands = let h = leb-false 128 (length (m .commands)) e in omega arith }
 
   rows : (st : State) → LawfulRow st (m .rows st)
@@ -177,13 +182,15 @@ module _ (content : ℕ → Words) (m : Machine) (past : List Event) (x : Added)
       | None ↦ refuse m 12
       | Some k ↦ cond (ltb 128 (length (m .memoryCommands) + (writesOn k + memoryReads (starts (m .serving (home m (responseBlock k))))))
             || ltb 128 (length (m .commands) + commandsSent (starts (m .serving (home m (responseBlock k)))))) (refuse m 14)
-          (moveOn (close (advance (takeResponse m i k) (home m (responseBlock k)) (m .serving (home m (responseBlock k)))) (home m (responseBlock k)))) ])
+          (moveOn (close (advance (takeResponse m i k) (home m (responseBlock k)) (m .serving (home m (responseBlock k))))
+              (home m (responseBlock k)))) ])
   response i None e = refusal (delivers 2 i) 12
   response i (Some k) e = tested (delivers 2 i) (ltb 128 memory || ltb 128 commands) 14
       (moveOn (close (advance (takeResponse m i k) s (m .serving s)) s))
       (λ t. let p = or-parts (ltb 128 memory) (ltb 128 commands) t in
         moved (delivers 2 i) (λ _. refl) (close (advance (takeResponse m i k) s (m .serving s)) s)
-          (response-lifts m x (r .matches) (r .inv) (r .owed) i k e (set-below (m .geometry) (r .bounds) (responseBlock k)) (count-most m x (r .matches) (r .rooms) s))
+          (response-lifts m x (r .matches) (r .inv) (r .owed) i k e (set-below (m .geometry) (r .bounds) (responseBlock k))
+              (count-most m x (r .matches) (r .rooms) s))
           (response-rooms m (r .rooms) i k e (m .serving s) (ltb-false 128 memory (p .0)) (ltb-false 128 commands (p .1)) s))
     where
       s : ℕ

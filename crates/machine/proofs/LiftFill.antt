@@ -65,7 +65,8 @@ module _ (content : ℕ → Words) (m : Machine) (past : List Event) (x : Added)
     (ce : commandCache k ≡ j .requestor) (be : commandBlock k ≡ j .block) (we : w ≡ j .way)
     (served : Served j (record { kept = m .kept (commandCache k); request = x .request (commandCache k) })) where
   fill-matches : (us : Words) (v : Way)
-      → Matches (machineAfterFill m i (commandCache k) (commandBlock k) w v) (addedAfterFill x (home m (commandBlock k)) j (commandCache k) (commandBlock k) w us)
+      → Matches (machineAfterFill m i (commandCache k) (commandBlock k) w v)
+          (addedAfterFill x (home m (commandBlock k)) j (commandCache k) (commandBlock k) w us)
   fill-matches us v = record {
       serving = update-each (λ t z. SameProgress (m .serving t) z) (x .progress) s (Some (atStage Filled j))
         (progress-on (m .serving s) j st Filled on (rw h at (r .matches .serving s))) (λ t _. r .matches .serving t);
@@ -107,20 +108,23 @@ module _ (content : ℕ → Words) (m : Machine) (past : List Event) (x : Added)
         (λ a n. rw (ne-eqb (commandCache k) a (λ z. n (sym z))) (r .orders a)))
 
     fill-good : (us : Words) (v : Way) → v ≡ wayIn (j .next) (j .block) us → Invariant (afterFill (ghostOf m x) (home m (commandBlock k)) j us)
-        → Invariant (ghostOf (machineAfterFill m i (commandCache k) (commandBlock k) w v) (addedAfterFill x (home m (commandBlock k)) j (commandCache k) (commandBlock k) w us))
+        → Invariant (ghostOf (machineAfterFill m i (commandCache k) (commandBlock k) w v)
+            (addedAfterFill x (home m (commandBlock k)) j (commandCache k) (commandBlock k) w us))
     fill-good us v ve q = rw (way-put m (r .bounds) (commandBlock k) (commandCache k) w v (range .0) (range .1))
         (subst (λ f. Invariant (ghostIn (m .geometry) (m .entry) (update₃ (m .way) (home m (commandBlock k)) (commandCache k) w v) f (m .memory)
             (addedAfterFill x (home m (commandBlock k)) j (commandCache k) (commandBlock k) w us))) (sym kept-is)
           (fill-inv m x (home m (commandBlock k)) (commandCache k) (commandBlock k) w j us v ce be we ve (served .noRequest) q))
 
     fill-order : (o : Order) → m .kept (commandCache k) ≡ Some o → blockOf o ≡ j .block → accessOf o ≡ j .access
-        → Keeps content m past (delivers 1 i) (fillFor (withCommands m (without (m .commands) i)) (commandCache k) (commandBlock k) w next ws (Some o))
+        → Keeps content m past (delivers 1 i) (fillFor (withCommands m (without (m .commands) i)) (commandCache k) (commandBlock k) w next ws
+            (Some o))
     fill-order (Load d l) ko bo ao =
         let c = commandCache k in let b = commandBlock k in
         let reads : isWrite (j .access) ≡ false = ap isWrite (sym ao) in
         let q : (waitingOrder c past ≡ Some (Load d l)) × (l < 2) = (r .orders c .0 ∙ ko, r .orders c .1 (Load d l) ko) in
         (addedAfterFill x (home m (commandBlock k)) j c b w ws, record {
-            bounds = r .bounds; lawful = r .lawful; owed = r .owed; orders = kept-after; turns = r .turns; matches = fill-matches ws (wayIn next d ws);
+            bounds = r .bounds; lawful = r .lawful; owed = r .owed; orders = kept-after; turns = r .turns;
+                matches = fill-matches ws (wayIn next d ws);
             inv = fill-good ws (wayIn next d ws) (rw (loads reads, bo) refl) (load-inv reads); rooms = fill-rooms (wayIn next d ws);
             words = λ a n small. ap (λ (f : ℕ → Words). wordOf (f a) n) (update-id (x .latest) b ws now) ∙ r .words a n small },
           (d, l, q .0, ap (λ z. wordOf z l) (now ∙ ap (x .latest) (be ∙ sym bo)) ∙ r .words d l (q .1)))

@@ -102,7 +102,8 @@ module _ (content : ℕ → Words) (m : Machine) (past : List Event) (x : Added)
         inv = rw (way-put m (r .bounds) b c w (wayIn M b ws) (ranges .0) (ranges .1), ← block-latest (m .memory) (x .pending) (x .latest) b ws)
           (store-keeps (ghostOf m x) (r .inv) (home m b) c w b ws here wr);
         rooms = rooms-after (wayIn M b ws);
-        words = λ i l q. rw (eq-eqb c c refl) (update-each (λ i z. wordOf z l ≡ cond (eqb b i && eqb k l) v (latest content past i l)) (x .latest) b ws
+        words = λ i l q. rw (eq-eqb c c refl) (update-each (λ i z. wordOf z l ≡ cond (eqb b i && eqb k l) v (latest content past i l))
+            (x .latest) b ws
           (word-replaced (m .way (home m b) c w .words) k v l small q
             ∙ rw (eq-eqb b b refl) (ap (λ n. cond (eqb k l) v n) (ap (λ ws. wordOf ws l) words-now ∙ r .words b l q)))
           (λ i n. r .words i l q ∙ rw (ne-eqb b i (λ e. n (sym e))) refl) i) },

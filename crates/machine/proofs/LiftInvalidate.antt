@@ -38,7 +38,8 @@ deliver-invalidate content m past x r i c b w e free = (y, record {
         pendings = λ k. rw (kept-push-no (writesBack k) (m .responses) a refl) (r .matches .pendings k);
         weights = λ t. answered-weights m x (r .matches) i (Invalidate c b w) e a refl refl t refl;
         left = answered-left m x (r .matches) i (Invalidate c b w) e a refl refl };
-      inv = rw (way-put m (r .bounds) b c w noWay (r .inv .copiesHome s c w known .1) (r .inv .copiesHome s c w known .2)) (invalidate-keeps (ghostOf m x) (r .inv) s c c b w a mail);
+      inv = rw (way-put m (r .bounds) b c w noWay (r .inv .copiesHome s c w known .1) (r .inv .copiesHome s c w known .2))
+          (invalidate-keeps (ghostOf m x) (r .inv) s c c b w a mail);
       rooms = record {
         requests = r .rooms .requests; memoryCommands = r .rooms .memoryCommands;
         commands = let h = taken-length (m .commands) i (Invalidate c b w) e in let l = r .rooms .commands in omega arith;

@@ -67,7 +67,8 @@ module _ (m : Machine) (x : Added) (sh : Matches m x) (inv : Invariant (ghostOf 
   done-is : carryOut (withCount (withMemoryCommands m (without (m .memoryCommands) i)) s (m .count s - 1)) (Read b r w next) ≡ done
   done-is = ap (λ (n : Machine). command n k) (count-is (withMemoryCommands m (without (m .memoryCommands) i)) s (m .count s - 1) low)
 
-  left-done : (t : ℕ) → Left (m .serving t) (weigh (commandOne (m .geometry) t) (m .commands ++ k ∷ []) + weigh (responseWeight (m .geometry) t) (m .responses))
+  left-done : (t : ℕ) → Left (m .serving t) (weigh (commandOne (m .geometry) t) (m .commands ++ k ∷ [])
+      + weigh (responseWeight (m .geometry) t) (m .responses))
   left-done t = ⊎-elim
       (λ z. rw z (left-two (m .serving s) (o .job) Asked (λ _ f. f) serving
         (weigh (commandOne (m .geometry) s) (m .commands ++ k ∷ []) + weigh (responseWeight (m .geometry) s) (m .responses))))
@@ -81,22 +82,28 @@ module _ (m : Machine) (x : Added) (sh : Matches m x) (inv : Invariant (ghostOf 
       serving = update-each (λ t z. SameProgress (m .serving t) z) (x .progress) s (Some (atStage Sent (o .job)))
         (progress-on (m .serving s) (o .job) Asked Sent (λ _ z. z) serving) (λ t _. sh .serving t);
       requests = sh .requests; left = left-done;
-      mails = sent-mails (m .geometry) (m .commands) (m .responses) (x .mailbox) (sh .mails) k quiet (record { known = x .mailbox s r .known; mail = To k }) refl;
+      mails = sent-mails (m .geometry) (m .commands) (m .responses) (x .mailbox) (sh .mails) k quiet
+          (record { known = x .mailbox s r .known; mail = To k }) refl;
       pendings = update-each
-        (λ d z. map pendingOf (kept-by (atBlock d) (without (m .memoryCommands) i)) ++ map pendingIn (kept-by (writesBack d) (m .responses)) ≡ pendingSlot z)
+        (λ d z. map pendingOf (kept-by (atBlock d) (without (m .memoryCommands) i)) ++ map pendingIn (kept-by (writesBack d) (m .responses))
+            ≡ pendingSlot z)
         (x .pending) b Idle (rw (q .1, q .2) refl)
         (λ d a. rw (taken-other (atBlock d) (m .memoryCommands) i (Read b r w next) e (ne-eqb b d (λ z. a (sym z)))) (sh .pendings d));
-      weights = update-each (λ t a. a ≡ weigh (commandWeight (m .geometry) t) (m .commands ++ k ∷ []) + (weigh (responseWeight (m .geometry) t) (m .responses)
+      weights = update-each (λ t a. a ≡ weigh (commandWeight (m .geometry) t) (m .commands ++ k ∷ [])
+          + (weigh (responseWeight (m .geometry) t) (m .responses)
           + (weigh (memoryWeight (m .geometry) t) (without (m .memoryCommands) i) + ackOwed (m .serving t)))) (m .count) s (m .count s - 1)
         (let u = rw (eq-eqb s s refl) at (weigh-taken (memoryWeight (m .geometry) s) (m .memoryCommands) i (Read b r w next) e) in
           let y = rw (eq-eqb s s refl) at (weigh-push (commandWeight (m .geometry) s) (m .commands) k) in let v = sh .weights s in omega arith)
         (λ t a. let u = rw (ne-eqb s t (λ z. a (sym z))) at (weigh-taken (memoryWeight (m .geometry) t) (m .memoryCommands) i (Read b r w next) e) in
-          let y = rw (ne-eqb s t (λ z. a (sym z))) at (weigh-push (commandWeight (m .geometry) t) (m .commands) k) in let v = sh .weights t in omega arith) }
+          let y = rw (ne-eqb s t (λ z. a (sym z))) at (weigh-push (commandWeight (m .geometry) t) (m .commands) k) in let v = sh .weights t in
+              omega arith) }
 
   pub memory-read-lifts : Lifted m x
-      (close (carryOut (withCount (withMemoryCommands m (without (m .memoryCommands) i)) (home m b) (m .count (home m b) - 1)) (Read b r w next)) (home m b))
+      (close (carryOut (withCount (withMemoryCommands m (without (m .memoryCommands) i)) (home m b) (m .count (home m b) - 1)) (Read b r w next))
+          (home m b))
   memory-read-lifts = subst (λ n. Lifted m x (close n s)) (sym done-is)
-      (lifted-after m x done (addedAfter m x s (o .job) b r w next) (close done s) refl (record { kept = refl; geometry = refl; rows = refl; turn = refl })
+      (lifted-after m x done (addedAfter m x s (o .job) b r w next) (close done s) refl
+          (record { kept = refl; geometry = refl; rows = refl; turn = refl })
         (close-lifts done (addedAfter m x s (o .job) b r w next) matches-done
           (read-inv m x inv s b r w next (o .job) (o .progress) (o .source) (o .block) (o .cache) (o .way) (o .next)) s (atStage Sent (o .job))
           (update-here (x .progress) s (Some (atStage Sent (o .job)))) low

@@ -32,7 +32,8 @@ use Rattle.machine.proofs.LiftClose.{close-lifts}
 -- ---- the memory changed at one block
 
 abbrev memoryOf : Machine → (ℕ → Words) → Machine
-memoryOf m f = record { geometry = m .geometry; rows = m .rows; way = m .way; entry = m .entry; kept = m .kept; turn = m .turn; serving = m .serving; count = m .count;
+memoryOf m f = record { geometry = m .geometry; rows = m .rows; way = m .way; entry = m .entry; kept = m .kept; turn = m .turn;
+    serving = m .serving; count = m .count;
   memory = f; requests = m .requests; commands = m .commands; responses = m .responses; memoryCommands = m .memoryCommands }
 
 abbrev setMemory : Machine → ℕ → Words → Machine
@@ -41,7 +42,8 @@ setMemory m b ws = memoryOf m (update (m .memory) b ws)
 block-written : (me : ℕ → Words) (pe : ℕ → Pending) (la : ℕ → Words) (b : ℕ) (v : Words) (p : Pending)
     → update (λ (i : ℕ). (blockOfParts me pe la i)) b (record { memory = v; pending = p; latest = la b })
       ≡ (λ (i : ℕ). blockOfParts (update me b v) (update pe b p) la i)
-block-written me pe la b v p = fun-ext (update-each (λ i z. z ≡ blockOfParts (update me b v) (update pe b p) la i) (λ (i : ℕ). (blockOfParts me pe la i)) b
+block-written me pe la b v p = fun-ext (update-each (λ i z. z ≡ blockOfParts (update me b v) (update pe b p) la i)
+    (λ (i : ℕ). (blockOfParts me pe la i)) b
     (record { memory = v; pending = p; latest = la b })
     (λ t. record { memory = sym (update-here me b v) t; pending = sym (update-here pe b p) t; latest = la b })
     (λ i n t. record { memory = sym (update-there me b v i n) t; pending = sym (update-there pe b p i n) t; latest = la i }))
@@ -57,7 +59,8 @@ waiting-range : (n : Sizes) (b : ℕ) (ws : Words) → PendingInRange n b (Waiti
 waiting-range n b ws (inl e) = grind arith
 waiting-range n b ws (inr l) = l
 
-module _ (m : Machine) (x : Added) (sh : Matches m x) (inv : Invariant (ghostOf m x)) (bounds : Bounds (m .geometry)) (owed : Owed m) (i b : ℕ) (ws : Words)
+module _ (m : Machine) (x : Added) (sh : Matches m x) (inv : Invariant (ghostOf m x)) (bounds : Bounds (m .geometry)) (owed : Owed m) (i b : ℕ)
+    (ws : Words)
     (e : nth (m .memoryCommands) i ≡ Some (Write b ws)) where
   abbrev s : ℕ
   s = home m b
@@ -80,7 +83,8 @@ module _ (m : Machine) (x : Added) (sh : Matches m x) (inv : Invariant (ghostOf 
   matches-done = record {
       serving = sh .serving; requests = sh .requests; mails = sh .mails; left = sh .left;
       pendings = update-each
-        (λ k z. map pendingOf (kept-by (atBlock k) (without (m .memoryCommands) i)) ++ map pendingIn (kept-by (writesBack k) (m .responses)) ≡ pendingSlot z)
+        (λ k z. map pendingOf (kept-by (atBlock k) (without (m .memoryCommands) i)) ++ map pendingIn (kept-by (writesBack k) (m .responses))
+            ≡ pendingSlot z)
         (x .pending) b Idle (rw (q .1, q .2) refl)
         (λ k n. rw (taken-other (atBlock k) (m .memoryCommands) i (Write b ws) e (ne-eqb b k (λ z. n (sym z)))) (sh .pendings k));
       weights = update-each (λ t a. a ≡ weigh (commandWeight (m .geometry) t) (m .commands) + (weigh (responseWeight (m .geometry) t) (m .responses)
@@ -94,7 +98,8 @@ module _ (m : Machine) (x : Added) (sh : Matches m x) (inv : Invariant (ghostOf 
   invariant-done = rw (← block-written (m .memory) (x .pending) (x .latest) b ws Idle) (memory-write-keeps (ghostOf m x) inv b ws (q .0))
 
   pub memory-write-lifts : Lifted m x
-      (close (carryOut (withCount (withMemoryCommands m (without (m .memoryCommands) i)) (home m b) (m .count (home m b) - 1)) (Write b ws)) (home m b))
+      (close (carryOut (withCount (withMemoryCommands m (without (m .memoryCommands) i)) (home m b) (m .count (home m b) - 1)) (Write b ws))
+          (home m b))
   memory-write-lifts =
       let open-here = waiting-open (x .progress s) b ws (rw (q .0) at (inv .pendings b)) in
       subst (λ n. Lifted m x (close n s)) (sym done-is)

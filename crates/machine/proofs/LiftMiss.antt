@@ -106,7 +106,8 @@ request-keeps : (content : ℕ → Words) (m : Machine) (past : List Event) (x :
 request-keeps content m past x r c o w small free room range at = (y, record {
       bounds = r .bounds; lawful = r .lawful; owed = r .owed; words = r .words; turns = r .turns;
       matches = record {
-        serving = r .matches .serving; mails = r .matches .mails; pendings = r .matches .pendings; weights = r .matches .weights; left = r .matches .left;
+        serving = r .matches .serving; mails = r .matches .mails; pendings = r .matches .pendings; weights = r .matches .weights;
+            left = r .matches .left;
         requests = update-each (λ a z. kept-by (λ q. eqb (q .cache) a) (m .requests ++ q ∷ []) ≡ requestSlot z) (x .request) c (Some q)
           (kept-push-yes (λ q. eqb (q .cache) c) (m .requests) q (eq-eqb c c refl) ∙ rw none refl)
           (λ a n. kept-push-no (λ q. eqb (q .cache) a) (m .requests) q (ne-eqb c a (λ z. n (sym z))) ∙ r .matches .requests a) };
@@ -158,16 +159,19 @@ module _ (content : ℕ → Words) (m : Machine) (past : List Event) (x : Added)
       (cache, lowest-below (λ w. not (held (m .way (home m (blockOf o)) c w .state))) (m .geometry .ways) w e, block) (only-none m x (r .inv) c o w y)
   new-way room y None e =
       let s : ℕ = home m (blockOf o) in
-      let z = turn-reached content m past x r (blockOf o) c (nextTurn m s c) cache (next-below (m .turn s c) (m .geometry .ways) (r .bounds .someWays)) in
+      let z = turn-reached content m past x r (blockOf o) c (nextTurn m s c) cache
+          (next-below (m .turn s c) (m .geometry .ways) (r .bounds .someWays)) in
       request-keeps content (withTurn m s c (nextTurn m s c)) past x z c o (m .turn s c) small free room (cache, r .turns s c, block)
         (only-none m x (r .inv) c o (m .turn s c) y)
 
   asks-for : length (m .requests) < 128 → (at : Option ℕ) → Misses m c o at
       → Keeps content m past (orders c o) (elim at [ Some w ↦ askFor m c o w | None ↦ askForNew m c o (home m (blockOf o)) ])
-  asks-for room (Some w) y = let a = only-at-way m x (r .inv) c o w y in request-keeps content m past x r c o w small free room (cache, a .1, block) (a .0)
+  asks-for room (Some w) y = let a = only-at-way m x (r .inv) c o w y in
+      request-keeps content m past x r c o w small free room (cache, a .1, block) (a .0)
   asks-for room None y = new-way room y (emptyWay m (home m (blockOf o)) c) refl
 
-  pub miss-lifts : (at : Option ℕ) → Misses m c o at → Keeps content m past (orders c o) (refuse m 14) → Keeps content m past (orders c o) (miss m c o at)
+  pub miss-lifts : (at : Option ℕ) → Misses m c o at → Keeps content m past (orders c o) (refuse m 14)
+      → Keeps content m past (orders c o) (miss m c o at)
   miss-lifts at y full = go (leb 128 (length (m .requests))) refl
     where
       go : (t : Bool) → leb 128 (length (m .requests)) ≡ t → Keeps content m past (orders c o) (cond t (refuse m 14)

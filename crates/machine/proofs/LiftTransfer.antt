@@ -75,7 +75,8 @@ module _ (content : ℕ → Words) (m : Machine) (past : List Event) (x : Added)
   abbrev d : Command
   d = SetTagData to b p next (m .way (home m b) c w .words) (Cache c)
   o : TransferFacts (x .progress s) c (x .mailbox s c) b w to p keeps next back
-  o = transfer-facts (x .progress s) c (m .entry s c) (x .mailbox s c) c b w to p keeps next back (took-command m x (r .matches) i k e s c refl refl .0)
+  o = transfer-facts (x .progress s) c (m .entry s c) (x .mailbox s c) c b w to p keeps next back
+      (took-command m x (r .matches) i k e s c refl refl .0)
       (r .inv .mailboxes s c)
   law : OwnerLaw (o .job) c w (o .shown) keeps back
   law = let ok : GoodJob (m .geometry) s (m .entry s) (o .job) = rw (o .progress) at (r .inv .jobs s) in
@@ -123,7 +124,8 @@ module _ (content : ℕ → Words) (m : Machine) (past : List Event) (x : Added)
       → ((t : ℕ) → m .count t ≡ weigh (commandWeight (m .geometry) t) (without (m .commands) i ++ d ∷ [])
         + (weigh (responseWeight (m .geometry) t) rs + (weigh (memoryWeight (m .geometry) t) (m .memoryCommands) + ackOwed (m .serving t))))
       → ((t : ℕ) → (t ≡ s → ⊥) → weigh (responseWeight (m .geometry) t) rs ≡ weigh (responseWeight (m .geometry) t) (m .responses))
-      → Reached content (withResponses (command (withWay (withCommands m (without (m .commands) i)) s c w (wayIn keeps b (m .way s c w .words))) d) rs)
+      → Reached content (withResponses (command (withWay (withCommands m (without (m .commands) i)) s c w
+          (wayIn keeps b (m .way s c w .words))) d) rs)
         (record { call = delivers 1 i; says = movedOn } ∷ past) (addedAfter m x s (o .job) c b w to p keeps next back l)
   transfer-lifts rs l answer room q pendings weights same = record {
       bounds = r .bounds; lawful = r .lawful; owed = r .owed; words = r .words; orders = r .orders; turns = r .turns;
@@ -131,11 +133,14 @@ module _ (content : ℕ → Words) (m : Machine) (past : List Event) (x : Added)
         serving = update-each (λ t z. SameProgress (m .serving t) z) (x .progress) s (Some (atStage Sent (o .job)))
           (progress-on (m .serving s) (o .job) Asked Sent (λ _ z. z) serving) (λ t _. r .matches .serving t);
         requests = r .matches .requests; mails = mails rs l q; pendings = pendings; weights = weights; left = left rs same };
-      inv = rw (way-put m (r .bounds) b c w (wayIn keeps b (m .way s c w .words)) (r .inv .copiesHome s c w known .1) (r .inv .copiesHome s c w known .2))
-        (transfer-inv m x (r .inv) s c b w to p keeps next back l answer (o .job) (o .shown) (o .progress) (o .source) (o .block) (o .requestor) (o .way)
+      inv = rw (way-put m (r .bounds) b c w (wayIn keeps b (m .way s c w .words)) (r .inv .copiesHome s c w known .1)
+          (r .inv .copiesHome s c w known .2))
+        (transfer-inv m x (r .inv) s c b w to p keeps next back l answer (o .job) (o .shown) (o .progress) (o .source) (o .block) (o .requestor)
+            (o .way)
           (o .gets));
       rooms = record { requests = r .rooms .requests; responses = room; memoryCommands = r .rooms .memoryCommands;
-        commands = let f = taken-length (m .commands) i k e in let g = push-length (without (m .commands) i) d in let z = r .rooms .commands in omega arith } }
+        commands = let f = taken-length (m .commands) i k e in let g = push-length (without (m .commands) i) d in let z = r .rooms .commands in
+            omega arith } }
 
 pub deliver-transfer : (content : ℕ → Words) (m : Machine) (past : List Event) (x : Added) → Reached content m past x → (i c b w to p : ℕ)
     (keeps next : State) (back : Bool) → nth (m .commands) i ≡ Some (Transfer c b w to p keeps next back)

@@ -67,7 +67,8 @@ given-pendings m x ok c b v idle = update-each
     (λ d n. rw (kept-push-no (writesBack d) (m .responses) (givenBack c b v) (back-other b d c (v .words) n (dirty (v .state)))) (ok .pendings d))
   where
     none : (kept-by (atBlock b) (m .memoryCommands) ≡ []) × (kept-by (writesBack b) (m .responses) ≡ [])
-    none = both-none pendingOf pendingIn (kept-by (atBlock b) (m .memoryCommands)) (kept-by (writesBack b) (m .responses)) (rw idle at (ok .pendings b))
+    none = both-none pendingOf pendingIn (kept-by (atBlock b) (m .memoryCommands)) (kept-by (writesBack b) (m .responses))
+        (rw idle at (ok .pendings b))
 
 -- ---- the delivery
 
@@ -90,7 +91,8 @@ deliver-writeback content m past x r i c b w e free = (y, record {
       bounds = r .bounds; lawful = r .lawful; owed = r .owed; words = r .words; orders = r .orders; turns = r .turns;
       matches = record {
         serving = update-each (λ t z. SameProgress (m .serving t) z) (x .progress) s (Some (atStage Clearing (q .job)))
-          (progress-on (m .serving s) (q .job) Evicting Clearing (λ _ z. z) (rw (q .progress) at (r .matches .serving s))) (λ t _. r .matches .serving t);
+          (progress-on (m .serving s) (q .job) Evicting Clearing (λ _ z. z) (rw (q .progress) at (r .matches .serving s)))
+              (λ t _. r .matches .serving t);
         requests = r .matches .requests;
         mails = answered-mails m x (r .matches) i k e a (key .0) (key .1) (droppedMailbox (x .mailbox s c) w a) refl;
         pendings = given-pendings m x (r .matches) c b (m .way s c w) idle;
@@ -116,7 +118,8 @@ deliver-writeback content m past x r i c b w e free = (y, record {
     q = writeback-facts (x .progress s) c (m .entry s c) (x .mailbox s c) c b w (took-command m x (r .matches) i k e s c refl refl .0)
         (r .inv .mailboxes s c)
     y : Added
-    y = record { mailbox = update₂ (x .mailbox) s c (droppedMailbox (x .mailbox s c) w a); progress = update (x .progress) s (Some (atStage Clearing (q .job)));
+    y = record { mailbox = update₂ (x .mailbox) s c (droppedMailbox (x .mailbox s c) w a);
+        progress = update (x .progress) s (Some (atStage Clearing (q .job)));
         request = x .request; pending = update (x .pending) b (comingIf (dirty (m .way s c w .state)) (m .way s c w .words)); latest = x .latest }
     idle : x .pending b ≡ Idle
     idle = rw (q .progress) at (r .inv .pendings b)

@@ -81,7 +81,8 @@ blockOfParts me pe la i = record { memory = me i; pending = pe i; latest = la i 
 pub block-update : (me : ℕ → Words) (pe : ℕ → Pending) (la : ℕ → Words) (b : ℕ) (p : Pending) (v : Words)
     → update (λ (i : ℕ). (blockOfParts me pe la i)) b (record { memory = me b; pending = p; latest = v })
       ≡ (λ (i : ℕ). blockOfParts me (update pe b p) (update la b v) i)
-block-update me pe la b p v = fun-ext (update-each (λ i z. z ≡ blockOfParts me (update pe b p) (update la b v) i) (λ (i : ℕ). (blockOfParts me pe la i)) b
+block-update me pe la b p v = fun-ext (update-each (λ i z. z ≡ blockOfParts me (update pe b p) (update la b v) i)
+    (λ (i : ℕ). (blockOfParts me pe la i)) b
     (record { memory = me b; pending = p; latest = v })
     (λ t. record { memory = me b; pending = sym (update-here pe b p) t; latest = sym (update-here la b v) t })
     (λ i n t. record { memory = me i; pending = sym (update-there pe b p i n) t; latest = sym (update-there la b v i n) t }))
@@ -131,7 +132,8 @@ other-key a b s c n = grind (arith, tells)
 module _ (m : Machine) (x : Added) (ok : Matches m x) (i : ℕ) (k : Command) (e : nth (m .commands) i ≡ Some k) (r : Response)
     (same-block : responseBlock r ≡ commandBlock k) (same-cache : responseCache r ≡ commandCache k) where
   pub answered-mails : (z : Mailbox) → z .mail ≡ From r → (t d : ℕ)
-      → map To (kept-by (toMailbox (m .geometry) t d) (without (m .commands) i)) ++ map From (kept-by (fromMailbox (m .geometry) t d) (m .responses ++ r ∷ []))
+      → map To (kept-by (toMailbox (m .geometry) t d) (without (m .commands) i))
+          ++ map From (kept-by (fromMailbox (m .geometry) t d) (m .responses ++ r ∷ []))
         ≡ mailSlot (update₂ (x .mailbox) (home m (commandBlock k)) (commandCache k) z t d .mail)
   answered-mails z zm = update₂-each (λ t d z. map To (kept-by (toMailbox n t d) (without (m .commands) i))
         ++ map From (kept-by (fromMailbox n t d) (m .responses ++ r ∷ [])) ≡ mailSlot (z .mail)) (x .mailbox) s c z
@@ -151,7 +153,8 @@ module _ (m : Machine) (x : Added) (ok : Matches m x) (i : ℕ) (k : Command) (e
       there = took-command m x ok i k e s c refl refl
 
   pub answered-weights : (t : ℕ) → commandWeight (m .geometry) t k ≡ commandOne (m .geometry) t k
-      → m .count t ≡ weigh (commandWeight (m .geometry) t) (without (m .commands) i) + (weigh (responseWeight (m .geometry) t) (m .responses ++ r ∷ [])
+      → m .count t ≡ weigh (commandWeight (m .geometry) t) (without (m .commands) i)
+          + (weigh (responseWeight (m .geometry) t) (m .responses ++ r ∷ [])
         + (weigh (memoryWeight (m .geometry) t) (m .memoryCommands) + ackOwed (m .serving t)))
   answered-weights t one =
       let h = ok .weights t in
@@ -160,13 +163,15 @@ module _ (m : Machine) (x : Added) (ok : Matches m x) (i : ℕ) (k : Command) (e
       let q : responseWeight (m .geometry) t r ≡ commandOne (m .geometry) t k = rw same-block refl in omega arith
 
   pub answered-left : (t : ℕ)
-      → Left (m .serving t) (weigh (commandOne (m .geometry) t) (without (m .commands) i) + weigh (responseWeight (m .geometry) t) (m .responses ++ r ∷ []))
+      → Left (m .serving t) (weigh (commandOne (m .geometry) t) (without (m .commands) i)
+          + weigh (responseWeight (m .geometry) t) (m .responses ++ r ∷ []))
   answered-left t =
       let u = weigh-taken (commandOne (m .geometry) t) (m .commands) i k e in
       let v = weigh-push (responseWeight (m .geometry) t) (m .responses) r in
       let w : responseWeight (m .geometry) t r ≡ commandOne (m .geometry) t k = rw same-block refl in
       let q : weigh (commandOne (m .geometry) t) (m .commands) + weigh (responseWeight (m .geometry) t) (m .responses)
-            ≡ weigh (commandOne (m .geometry) t) (without (m .commands) i) + weigh (responseWeight (m .geometry) t) (m .responses ++ r ∷ []) = omega arith in
+            ≡ weigh (commandOne (m .geometry) t) (without (m .commands) i)
+                + weigh (responseWeight (m .geometry) t) (m .responses ++ r ∷ []) = omega arith in
       subst (Left (m .serving t)) q (ok .left t)
 
 -- a command is sent to a mailbox with no mail
@@ -189,7 +194,8 @@ sent-mails n cs rs f mails k quiet z zm = update₂-each
 
 -- a command is taken and its mailbox has no mail then
 pub taken-mails : (m : Machine) (x : Added) → Matches m x → (i : ℕ) (k : Command) → nth (m .commands) i ≡ Some k → (z : Mailbox) → z .mail ≡ Nothing
-    → (t d : ℕ) → map To (kept-by (toMailbox (m .geometry) t d) (without (m .commands) i)) ++ map From (kept-by (fromMailbox (m .geometry) t d) (m .responses))
+    → (t d : ℕ) → map To (kept-by (toMailbox (m .geometry) t d) (without (m .commands) i))
+        ++ map From (kept-by (fromMailbox (m .geometry) t d) (m .responses))
       ≡ mailSlot (update₂ (x .mailbox) (home m (commandBlock k)) (commandCache k) z t d .mail)
 taken-mails m x ok i k e z zm = update₂-each (λ t d z. map To (kept-by (toMailbox n t d) (without (m .commands) i))
       ++ map From (kept-by (fromMailbox n t d) (m .responses)) ≡ mailSlot (z .mail)) (x .mailbox) s c z

@@ -198,7 +198,8 @@ pending-is (Waiting ws) q e = cc
 -- the memory command whose turn it is is what its block has on its way
 pub took-memory-command : (m : Machine) (x : Added) → Matches m x → (i : ℕ) (k : MemoryCommand) → nth (m .memoryCommands) i ≡ Some k
     → (x .pending (memoryCommandBlock k) ≡ pendingOf k)
-      × (kept-by (atBlock (memoryCommandBlock k)) (without (m .memoryCommands) i) ≡ []) × (kept-by (writesBack (memoryCommandBlock k)) (m .responses) ≡ [])
+      × (kept-by (atBlock (memoryCommandBlock k)) (without (m .memoryCommands) i) ≡ []) ×
+          (kept-by (writesBack (memoryCommandBlock k)) (m .responses) ≡ [])
 took-memory-command m x sh i k e =
     let b : ℕ = memoryCommandBlock k in
     let r = only-left pendingOf pendingIn (atBlock b) (m .memoryCommands) (kept-by (writesBack b) (m .responses)) i k (pendingSlot (x .pending b)) e

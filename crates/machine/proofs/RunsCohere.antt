@@ -21,7 +21,8 @@ use Rattle.machine.proofs.Reached.{Reached, addedAtStart, reached-start}
 use Rattle.machine.proofs.CallKeeps.{call-keeps}
 
 -- what a run from m reaches
-run-reaches : (content : ℕ → Words) (calls : List Call) (m : Machine) (past : List Event) (x : Added) → Reached content m past x → NoStaleLoad content past
+run-reaches : (content : ℕ → Words) (calls : List Call) (m : Machine) (past : List Event) (x : Added) → Reached content m past x
+    → NoStaleLoad content past
     → (y : Added) × Reached content (runOn m past calls .machine) (runOn m past calls .events) y × NoStaleLoad content (runOn m past calls .events)
 run-reaches content [] m past x r fresh = (x, r, fresh)
 run-reaches content (a ∷ calls) m past x r fresh = let q = call-keeps content m past x r a in

@@ -69,7 +69,8 @@ advance-rooms m s (Some t) r = go (t .round) r
     still : RoomFor m 0 0 → Rooms m
     still r = record { requests = r .requests; responses = r .responses; commands = let h = r .commands in omega arith;
         memoryCommands = let h = r .memoryCommands in omega arith }
-    go : (z : Round) → RoomFor m (commandsSent (starts (Some (record { job = t .job; round = z })))) (memoryReads (starts (Some (record { job = t .job; round = z }))))
+    go : (z : Round) → RoomFor m (commandsSent (starts (Some (record { job = t .job; round = z }))))
+        (memoryReads (starts (Some (record { job = t .job; round = z }))))
         → Rooms (advance m s (Some (record { job = t .job; round = z })))
     go Two r = still r
     go (One zero) r = still r
@@ -99,7 +100,8 @@ response-rooms m r i x e t p q s = close-rooms (advance (takeResponse m i x) s t
 
 -- ---- the memory's turn
 
-pub turn-rooms : (m : Machine) → Rooms m → (i : ℕ) (x : MemoryCommand) → nth (m .memoryCommands) i ≡ Some x → length (m .commands) + cond (isRead x) 1 0 ≤ 128
+pub turn-rooms : (m : Machine) → Rooms m → (i : ℕ) (x : MemoryCommand) → nth (m .memoryCommands) i ≡ Some x
+    → length (m .commands) + cond (isRead x) 1 0 ≤ 128
     → (s v : ℕ) → Rooms (close (carryOut (withCount (withMemoryCommands m (without (m .memoryCommands) i)) s v) x) s)
 turn-rooms m r i (Read b d w next) e l s v =
     close-rooms (carryOut (withCount (withMemoryCommands m (without (m .memoryCommands) i)) s v) (Read b d w next)) s
