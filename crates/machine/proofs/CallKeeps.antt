@@ -29,9 +29,9 @@ use Rattle.machine.specs.Holdings.{blockOf, wordAsked, hits}
 use Rattle.machine.specs.Machines.{Machine, home, withCommands, withCount, withMemoryCommands}
 use Rattle.machine.specs.Outcomes.{Outcome, movedOn, refuse, moveOn}
 use Rattle.machine.specs.Orders.{holdingWay, finish, miss, orderAt, order}
-use Rattle.machine.specs.Acceptance.{jobFor, firstRound, fromMemory, accept, deliverRequest}
-use Rattle.machine.specs.Commands.{obey, answersTo, sendsOn, deliverCommand}
-use Rattle.machine.specs.Responses.{close, advance, takeResponse, starts, memoryReads, commandsSent, writesOn, deliverResponse, carryOut, isRead, memoryTurn}
+use Rattle.machine.specs.Acceptance.{jobFor, firstRound, fromMemory, accept}
+use Rattle.machine.specs.Commands.{obey, answersTo, sendsOn}
+use Rattle.machine.specs.Responses.{close, advance, takeResponse, starts, memoryReads, commandsSent, writesOn, carryOut, isRead}
 use Rattle.machine.specs.Runs.{Call, orders, delivers, turns, Event, deliver, step}
 use Rattle.machine.specs.Coherence.{latest, waitingOrder, Lawful}
 use Rattle.machine.proofs.Ranges.{Bounds, set-below}

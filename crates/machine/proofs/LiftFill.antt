@@ -25,7 +25,7 @@ use Rattle.machine.specs.declared.order.Order.the-variants.{Load, Store}
 use Rattle.machine.specs.declared.transaction.Job.{Job}
 use Rattle.machine.specs.declared.transaction.Round.{Round}
 use Rattle.machine.specs.declared.transaction.Round.the-variants.{Two}
-use Rattle.machine.specs.Tables.{put, put₃}
+use Rattle.machine.specs.Tables.{put}
 use Rattle.machine.specs.Holdings.{wayIn, entryIn, blockOf, wordAsked, accessOf, isWrite}
 use Rattle.machine.specs.Machines.{Machine, home, withWay, withKept, withCommands, respond}
 use Rattle.machine.specs.Commands.{fillFor, fill}

@@ -1,8 +1,8 @@
 -- The machine takes an order that hits.
 use mathlib.Core.Path.{_≡_, refl, sym, _∙_, ap, fun-ext}
-use mathlib.Core.Bool.{true, false, cond, _&&_}
+use mathlib.Core.Bool.{true, cond, _&&_}
 use mathlib.Core.Logic.{_⊎_, inl, inr}
-use mathlib.Core.List.{List, _∷_}
+use mathlib.Core.List.{List}
 use Prim.Native.Nat.{ℕ, _<_}
 use native.Mathlib.Omega.{arith}
 use lib.Dec.{eqb}
@@ -23,7 +23,6 @@ use Rattle.machine.specs.Orders.{holdingWay, finish}
 use Rattle.machine.specs.Runs.{Event, orders}
 use Rattle.machine.specs.Coherence.{waitingOrder, latest}
 use Rattle.machine.proofs.Updates.{update, update₃, update-each, update₂-each}
-use Rattle.machine.proofs.Ghost.{BlockAtMemory}
 use Rattle.machine.proofs.Promises.{known-held}
 use Rattle.machine.proofs.StepStore.{store-keeps}
 use Rattle.machine.proofs.Matches.{Added, ghostOf}

@@ -2,7 +2,7 @@
 use mathlib.Core.Path.{_≡_, refl}
 use mathlib.Core.Bool.{true}
 use mathlib.Core.List.{List}
-use Prim.Native.Nat.{ℕ, suc, _<_, _≤_}
+use Prim.Native.Nat.{ℕ, _<_}
 use native.Mathlib.Omega.{arith}
 use lib.ListN.{length}
 use Rattle.std.specs.Finite.{nth}
@@ -19,7 +19,7 @@ use Rattle.machine.specs.Commands.{obey}
 use Rattle.machine.specs.Runs.{Event, delivers}
 use Rattle.machine.proofs.Updates.{update₂}
 use Rattle.machine.proofs.Keys.{kept-push-no}
-use Rattle.machine.proofs.Ghost.{To, Mailbox}
+use Rattle.machine.proofs.Ghost.{To}
 use Rattle.machine.proofs.StateFacts.{surely-clean-held}
 use Rattle.machine.proofs.StepInvalidate.{droppedMailbox, drops, invalidate-keeps}
 use Rattle.machine.proofs.Matches.{Added, ghostOf, writesBack, took-command}

@@ -22,7 +22,7 @@ use Rattle.machine.proofs.Updates.{update, update₂, update-each, update-here
 use Rattle.machine.proofs.Keys.{taken-other}
 use Rattle.machine.proofs.Weights.{weigh, weigh-taken, weigh-push}
 use Rattle.machine.proofs.Ranges.{Bounds, set-below}
-use Rattle.machine.proofs.Ghost.{Asked, Sent, atStage, Nothing, To, Mailbox, Idle, Reading}
+use Rattle.machine.proofs.Ghost.{Asked, Sent, atStage, Nothing, To, Idle, Reading}
 use Rattle.machine.proofs.Invariant.{Invariant}
 use Rattle.machine.proofs.MailFacts.{requestor-at}
 use Rattle.machine.proofs.StepMemoryRead.{ReadFacts, read-facts, memory-read-keeps}

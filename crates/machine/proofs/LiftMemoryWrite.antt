@@ -11,7 +11,6 @@ use Rattle.std.specs.declared.option.Option.the-variants.{Some, None}
 use Rattle.std.proofs.shelf.Tests.{eq-eqb, ne-eqb}
 use Rattle.bedrock.specs.declared.words.Words.{Words}
 use Rattle.bedrock.specs.Geometries.{Sizes}
-use Rattle.messages.specs.declared.memory_command.MemoryCommand.{MemoryCommand}
 use Rattle.messages.specs.declared.memory_command.MemoryCommand.the-variants.{Write}
 use Rattle.wires.specs.Waiting.{without}
 use Rattle.machine.specs.Machines.{Machine, home, withMemory, withCount, withMemoryCommands}
@@ -24,7 +23,7 @@ use Rattle.machine.proofs.Ghost.{Progress, Pending, Idle, Waiting}
 use Rattle.machine.proofs.Invariant.{GoodPending, PendingInRange, Invariant}
 use Rattle.machine.proofs.StepMemoryWrite.{memory-write-keeps}
 use Rattle.machine.proofs.Matches.{Added, ghostOf, Matches, atBlock, writesBack, pendingOf, pendingIn, pendingSlot, took-memory-command, commandWeight, responseWeight, memoryWeight, ackOwed}
-use Rattle.machine.proofs.Lifting.{ghostIn, blockOfParts}
+use Rattle.machine.proofs.Lifting.{blockOfParts}
 use Rattle.machine.proofs.Lifted.{Owed, Lifted, lifted-after}
 use Rattle.machine.proofs.Unguarded.{setCount, count-is}
 use Rattle.machine.proofs.LiftClose.{close-lifts}

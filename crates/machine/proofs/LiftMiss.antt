@@ -21,7 +21,7 @@ use Rattle.machine.specs.declared.order.Order.the-variants.{Load, Store}
 use Rattle.machine.specs.Tables.{put}
 use Rattle.machine.specs.Holdings.{blockOf, wordAsked, accessOf, isWrite, hits}
 use Rattle.machine.specs.Machines.{Machine, home, withTurn}
-use Rattle.machine.specs.Outcomes.{Outcome, refuse}
+use Rattle.machine.specs.Outcomes.{refuse}
 use Rattle.machine.specs.Orders.{holdingWay, emptyWay, nextTurn, askFor, askForNew, miss}
 use Rattle.machine.specs.Runs.{Event, orders}
 use Rattle.machine.specs.Coherence.{Shows, waitingOrder}

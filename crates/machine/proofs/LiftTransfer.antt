@@ -3,7 +3,7 @@ use mathlib.Core.Path.{_≡_, refl, sym, _∙_, ap, subst}
 use mathlib.Core.Bool.{Bool, true, false, cond}
 use mathlib.Core.Logic.{inl, inr, ⊎-elim}
 use mathlib.Core.List.{List, _∷_, _++_, map, []}
-use Prim.Native.Nat.{ℕ, _+_, _<_, _≤_}
+use Prim.Native.Nat.{ℕ, _+_, _≤_}
 use native.Mathlib.Omega.{arith}
 use lib.Dec.{eqb}
 use lib.ListN.{length}
@@ -20,7 +20,6 @@ use Rattle.messages.specs.declared.command.Command.the-variants.{Transfer, SetT
 use Rattle.messages.specs.declared.response.Response.{Response}
 use Rattle.messages.specs.Messages.{responseCache, responseBlock}
 use Rattle.wires.specs.Waiting.{without}
-use Rattle.machine.specs.declared.holding.Way.{Way}
 use Rattle.machine.specs.declared.transaction.Source.the-variants.{Owner}
 use Rattle.machine.specs.declared.transaction.Job.{Job}
 use Rattle.machine.specs.Holdings.{wayIn, entryIn}

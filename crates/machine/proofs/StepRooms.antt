@@ -1,8 +1,8 @@
 -- What the directory and the memory send leaves each list within its channel, as 14 is answered where it would not.
-use mathlib.Core.Path.{_≡_, refl, sym, subst}
+use mathlib.Core.Path.{_≡_}
 use mathlib.Core.Bool.{Bool, true, false, cond}
-use mathlib.Core.List.{List, [], _∷_, _++_}
-use Prim.Native.Nat.{ℕ, zero, suc, _+_, _-_, _<_, _≤_}
+use mathlib.Core.List.{List, _++_}
+use Prim.Native.Nat.{ℕ, zero, suc, _+_, _≤_}
 use native.Mathlib.Omega.{arith}
 use lib.Dec.{eqb}
 use lib.ListN.{length}
@@ -16,7 +16,6 @@ use Rattle.messages.specs.declared.response.Response.{Response}
 use Rattle.messages.specs.declared.response.Response.the-variants.{InvalidateAck, CoherenceAck, Writeback, NullWriteback}
 use Rattle.messages.specs.declared.memory_command.MemoryCommand.{MemoryCommand}
 use Rattle.messages.specs.declared.memory_command.MemoryCommand.the-variants.{Read, Write}
-use Rattle.messages.specs.Messages.{responseBlock, memoryCommandBlock}
 use Rattle.bedrock.specs.declared.party.Party.the-variants.{Directory}
 use Rattle.wires.specs.Waiting.{without}
 use Rattle.machine.specs.declared.transaction.Source.{Source}
@@ -26,7 +25,7 @@ use Rattle.machine.specs.declared.transaction.Round.{Round}
 use Rattle.machine.specs.declared.transaction.Round.the-variants.{One, Two}
 use Rattle.machine.specs.declared.transaction.Transaction.{Transaction}
 use Rattle.machine.specs.Machines.{Machine, home, withServing, withCount, withRequests, withCommands, withMemoryCommands}
-use Rattle.machine.specs.Acceptance.{recordJob, fetch, beginTwo, fromMemory}
+use Rattle.machine.specs.Acceptance.{recordJob, fetch, beginTwo}
 use Rattle.machine.specs.Responses.{close, advance, takeResponse, starts, memoryReads, commandsSent, writesOn, carryOut, isRead}
 use Rattle.machine.proofs.Rooms.{Rooms, taken-length, push-length, append-length}
 
