@@ -1,4 +1,4 @@
--- Set Tag with SetTagData, Set State with Wakeup: the requestor is filled
+-- Set Tag with Data or Set State with Wakeup: the requestor is filled, and the invariant is kept.
 use mathlib.Core.Path.{_≡_, refl, sym, _∙_, ap}
 use mathlib.Core.Bool.{Bool, true, false}
 use mathlib.Core.Logic.{_⊎_, inl, inr}

@@ -1,4 +1,4 @@
--- SetTagData arrives; a Wakeup arrives
+-- Data or a Wakeup that arrives keeps the invariant.
 use mathlib.Core.Path.{_≡_, refl}
 use mathlib.Core.Logic.{_⊎_, inr, ⊎-elim}
 use Prim.Native.Nat.{ℕ}
