@@ -1,6 +1,6 @@
 // The fabric: a directory, caches, four channels and a memory, generic over protocol, channels and memory.
 pub mod build;
+mod lookup;
 pub mod orders;
 pub mod questions;
-mod lookup;
 pub mod state;

@@ -34,6 +34,7 @@ dismissed-same true b e n = go (sharing (e .state) && eqb (e .block) b) refl
     is-S M h = grind arith
     is-S O h = grind arith
     is-S F h = grind arith
+
     go : (t : Bool) → (sharing (e .state) && eqb (e .block) b) ≡ t → cond t noEntry e ≡ e
     go true i = let p = and-parts (sharing (e .state)) (eqb (e .block) b) i in absurd (n refl (is-S (e .state) (p .0)) (eqb-true (e .block) b (p .1)))
     go false i = refl
@@ -78,6 +79,7 @@ bystander-not j c r = ((λ e. let z : role j c ≡ Requestor = rw e (requestor-r
   where
     clash : role j c ≡ Requestor → ⊥
     clash z = grind arith
+
     go : (z : Source) → j .source ≡ z → (x : ℕ) → NotOwner z c x
     go Memory i x = tt
     go OwnCopy i x = tt

@@ -142,15 +142,17 @@ beside-next j f ex up OwnCopy p c x n h b = absurd (none-stays j f c x (p .1 c x
     writes = up (p .0)
 beside-next j f ex up (Owner o q shown keeps writeback) p c x n h b =
     update₂-each (λ c x z. held (z .state) ≡ true → z .block ≡ j .block → goTogether (j .next) (z .state) ≡ true) (cleared j f) o q
-      (entryIn keeps (j .block)) (λ hk _. let k = entry-held keeps (j .block) hk in rw (held-entry keeps (j .block) k .0) (p .pair k))
-      (λ c x i. go (isWrite (j .access)) refl c x i) c x h b
+    (entryIn keeps (j .block)) (λ hk _. let k = entry-held keeps (j .block) hk in rw (held-entry keeps (j .block) k .0) (p .pair k))
+    (λ c x i. go (isWrite (j .access)) refl c x i) c x h b
   where
     mate : (c x : ℕ) → (c ≡ o → x ≡ q → ⊥) → held (f c x .state) ≡ true → f c x .block ≡ j .block → goTogether shown (f c x .state) ≡ true
     mate c x i h b = let en = held-entry shown (j .block) (owning-held shown (p .owned)) in
         rw (p .at, en .0) at (ex o q c x (λ a b. i (sym a) (sym b)) (rw (p .at, en .0) (owning-held shown (p .owned))) h
-          (rw (p .at, en .1) (sym b)) .1)
+        (rw (p .at, en .1) (sym b)) .1)
+
     only-S : (c x : ℕ) → (c ≡ o → x ≡ q → ⊥) → held (f c x .state) ≡ true → f c x .block ≡ j .block → f c x .state ≡ S
     only-S c x i h b = beside-owner shown (f c x .state) (p .owned) (mate c x i h b)
+
     go : (t : Bool) → isWrite (j .access) ≡ t → (c x : ℕ) → (c ≡ o → x ≡ q → ⊥) → held (dismissed t (j .block) (f c x) .state) ≡ true
         → dismissed t (j .block) (f c x) .block ≡ j .block → goTogether (j .next) (dismissed t (j .block) (f c x) .state) ≡ true
     go true i c x u h b = absurd (none-stays j f c x (only-S c x u) h b)
@@ -160,32 +162,36 @@ beside-next j f ex up (Owner o q shown keeps writeback) p c x n h b =
 -- one entry more that is apart from the others
 apart-update : (f : ℕ → ℕ → Entry) (r w : ℕ) (e : Entry) → AllApart f
     → ((c x : ℕ) → (c ≡ r → x ≡ w → ⊥) → held (f c x .state) ≡ true → f c x .block ≡ e .block → held (e .state) ≡ true
-      → (c ≡ r → ⊥) × (goTogether (e .state) (f c x .state) ≡ true))
+    → (c ≡ r → ⊥) × (goTogether (e .state) (f c x .state) ≡ true))
     → AllApart (update₂ f r w e)
 apart-update f r w e ex new c a d x n = update₂-each (λ c a z. (d x : ℕ) → (c ≡ d → a ≡ x → ⊥) → Apart c z d (update₂ f r w e d x)) f r w e
     (λ d x n. update₂-each (λ d x z. (r ≡ d → w ≡ x → ⊥) → Apart r e d z) f r w e (λ m. absurd (m refl refl))
-      (λ d x i m h k b. let o = new d x i k (sym b) h in ((λ p. o .0 (sym p)), o .1)) d x n)
+    (λ d x i m h k b. let o = new d x i k (sym b) h in ((λ p. o .0 (sym p)), o .1)) d x n)
     (λ c a i d x n. update₂-each (λ d x z. (c ≡ d → a ≡ x → ⊥) → Apart c (f c a) d z) f r w e
-      (λ m h k b. let o = new c a i h b k in (o .0, together-sym (f c a .state) (e .state) ∙ o .1)) (λ d x _ m. ex c a d x m) d x n)
+    (λ m h k b. let o = new c a i h b k in (o .0, together-sym (f c a .state) (e .state) ∙ o .1)) (λ d x _ m. ex c a d x m) d x n)
     c a d x n
 
 -- the entries that acceptance leaves exclude one another
 pub settled-apart : (n : Sizes) (s : ℕ) (f : ℕ → ℕ → Entry) (j : Job) → Plan n s f j → AllApart f → AllApart (settle j f)
 settled-apart n s f j plan ex = apart-update (handed j f) (j .requestor) (j .way) (entryIn (j .next) (j .block)) (shrinks f (handed j f) weak ex)
-    (λ c x i h b _. let en = held-entry (j .next) (j .block) (plan .gets) in let bl : handed j f c x .block ≡ j .block = b ∙ en .1 in
-      (λ p. alone c x i p h bl,
-        rw (en .0) (beside-next j f ex (plan .upgrades) (j .source) (plan .source) c x (λ p. alone c x i p h bl) h bl)))
+    (λ c x i h b _. let en = held-entry (j .next) (j .block) (plan .gets) in let bl : handed j f c x .block ≡ j .block = b ∙ en .1 in (
+      λ p. alone c x i p h bl,
+      rw (en .0) (beside-next j f ex (plan .upgrades) (j .source) (plan .source) c x (λ p. alone c x i p h bl) h bl),
+    ))
   where
     weak : (c x : ℕ) → Weaker (handed j f c x) (f c x)
     weak = handed-weaker j f (j .source) (plan .source)
+
     alone : (c x : ℕ) → (c ≡ j .requestor → x ≡ j .way → ⊥) → c ≡ j .requestor → held (handed j f c x .state) ≡ true
         → handed j f c x .block ≡ j .block → ⊥
     alone c x i p h b = go (j .upgrade) refl
       where
         hd : held (f c x .state) ≡ true
         hd = weak c x .had h
+
         bl : f c x .block ≡ j .block
         bl = weak c x .same h ∙ b
+
         go : (t : Bool) → j .upgrade ≡ t → ⊥
         go false u = plan .notShown u x (rw p at hd) (rw p at bl)
         go true u = let k = plan .copy u in

@@ -35,8 +35,14 @@ pub record AlmostMatches (m : Machine) (x : Added) (s : ℕ) : Type 0 where
 -- and for that too
 pub all-match : (m : Machine) (x : Added) (s : ℕ) → AlmostMatches m x s
     → Left (m .serving s) (weigh (commandOne (m .geometry) s) (m .commands) + weigh (responseWeight (m .geometry) s) (m .responses)) → Matches m x
-all-match m x s a here = record { serving = a .serving; requests = a .requests; mails = a .mails; pendings = a .pendings; weights = a .weights;
-    left = λ t. all t (cases-eq t s) }
+all-match m x s a here = record {
+  serving = a .serving;
+  requests = a .requests;
+  mails = a .mails;
+  pendings = a .pendings;
+  weights = a .weights;
+  left = λ t. all t (cases-eq t s);
+}
   where
     all : (t : ℕ) → (t ≡ s) ⊎ (t ≡ s → ⊥)
         → Left (m .serving t) (weigh (commandOne (m .geometry) t) (m .commands) + weigh (responseWeight (m .geometry) t) (m .responses))
@@ -53,13 +59,22 @@ module _ (n : Sizes) (s : ℕ) (cs : List Command) (k : Command) (e : setOf n (c
     where
       z : (kept-by (toMailbox n s c) cs ≡ []) × (kept-by (fromMailbox n s c) rs ≡ [])
       z = both-none To From (kept-by (toMailbox n s c) cs) (kept-by (fromMailbox n s c) rs) q
+
       go : (c ≡ commandCache k) ⊎ (c ≡ commandCache k → ⊥)
           → map To (kept-by (toMailbox n s c) (cs ++ k ∷ [])) ++ map From (kept-by (fromMailbox n s c) rs)
           ≡ mailSlot (cond (eqb c (commandCache k)) (To k) Nothing)
-      go (inl i) = rw (kept-push-yes (toMailbox n s c) cs k (and-from (eqb (setOf n (commandBlock k)) s) (eqb (commandCache k) c)
-          (eq-eqb (setOf n (commandBlock k)) s e) (eq-eqb (commandCache k) c (sym i))), z .0, z .1, eq-eqb c (commandCache k) i) refl
-      go (inr i) = rw (kept-push-no (toMailbox n s c) cs k
-          (rw (ne-eqb (commandCache k) c (λ j. i (sym j)), eq-eqb (setOf n (commandBlock k)) s e) refl), ne-eqb c (commandCache k) i) q
+      go (inl i) = rw (
+        kept-push-yes (toMailbox n s c) cs k (and-from (eqb (setOf n (commandBlock k)) s) (eqb (commandCache k) c)
+            (eq-eqb (setOf n (commandBlock k)) s e) (eq-eqb (commandCache k) c (sym i))),
+        z .0,
+        z .1,
+        eq-eqb c (commandCache k) i,
+      ) refl
+      go (inr i) = rw (
+        kept-push-no (toMailbox n s c) cs k
+            (rw (ne-eqb (commandCache k) c (λ j. i (sym j)), eq-eqb (setOf n (commandBlock k)) s e) refl),
+        ne-eqb c (commandCache k) i,
+      ) q
 
   -- other sets do not see it
   pub sent-there : (t c : ℕ) → (t ≡ s → ⊥) → kept-by (toMailbox n t c) (cs ++ k ∷ []) ≡ kept-by (toMailbox n t c) cs

@@ -56,39 +56,55 @@ module _ (n : Machine) (y : Added) (s : ℕ) (h : Progress) (sh : AlmostMatches 
     (owed : (t : ℕ) → (t ≡ s → ⊥) → n .count t ≡ 0 → n .serving t ≡ None) (low : s < 16) (small : n .count s ≤ 1000) where
   abbrev g : Sizes
   g = n .geometry
+
   abbrev out : ℕ
   out = weigh (commandOne g s) (n .commands) + weigh (responseWeight g s) (n .responses)
 
   -- the last answer of round one
   begins : (j : Job) → n .serving s ≡ Some (record { job = j; round = One 1 }) → Lifted n y (close (begin n j) s)
-  begins j e = lifted-after n y (begin n j) (afterRoundOne y (home n (j .block)) j) (close (begin n j) s) refl (record { kept = f .frame .kept;
-        geometry = f .frame .geometry; rows = f .frame .rows; turn = f .frame .turn })
+  begins j e = lifted-after n y (begin n j) (afterRoundOne y (home n (j .block)) j) (close (begin n j) s) refl (record {
+    kept = f .frame .kept;
+    geometry = f .frame .geometry;
+    rows = f .frame .rows;
+    turn = f .frame .turn;
+  })
       (close-lifts (begin n j) (afterRoundOne y (home n (j .block)) j) (b .0) (b .1) s (atStage Asked j)
-          (rw here (update-here (y .progress) s (Some (atStage Asked j)))) low
-        (λ t ne o. update-there (ask n j (j .source) .serving) (home n (j .block)) (Some (record { job = j; round = Two })) t (λ q. ne (q ∙ here))
-          ∙ ap (λ h. h t) (f .serving) ∙ owed t ne (sym (f .counts t (λ q. ne (q ∙ here))) ∙ o)))
+      (rw here (update-here (y .progress) s (Some (atStage Asked j)))) low
+      (λ t ne o. update-there (ask n j (j .source) .serving) (home n (j .block)) (Some (record { job = j; round = Two })) t (λ q. ne (q ∙ here))
+      ∙ ap (λ h. h t) (f .serving) ∙ owed t ne (sym (f .counts t (λ q. ne (q ∙ here))) ∙ o)))
     where
       l : (1 ≡ suc out) × (0 < 1)
       l = rw e at left
+
       no-commands : weigh (commandOne g s) (n .commands) ≡ 0
       no-commands = let q = l .0 in omega arith
+
       no-responses : weigh (responseWeight g s) (n .responses) ≡ 0
       no-responses = let q = l .0 in omega arith
+
       quiet : (c : ℕ) → y .mailbox s c .mail ≡ Nothing
       quiet c = no-slot (y .mailbox s c .mail)
-          (rw (weigh-none (commandOne g s) (toMailbox g s c) (one-heavy g s c) (n .commands) no-commands,
-            weigh-none (responseWeight g s) (fromMailbox g s c) (response-heavy g s c) (n .responses) no-responses)
-            at (sh .mails s c))
+          (rw (
+            weigh-none (commandOne g s) (toMailbox g s c) (one-heavy g s c) (n .commands) no-commands,
+            weigh-none (responseWeight g s) (fromMailbox g s c) (response-heavy g s c) (n .responses) no-responses,
+          )
+          at (sh .mails s c))
+
       st : (j ≡ h .job) × InRound (h .stage) (One 1)
       st = rw (e, open-here) at (sh .serving s)
+
       clear : h .stage ≡ Clearing
       clear = quiet-clearing (ghostOf n y) inv s (h .job) (h .stage) 1 open-here quiet (st .1)
+
       clearing : y .progress s ≡ Some (atStage Clearing j)
       clearing = open-here ∙ (λ i. Some (record { job = sym (st .0) i; stage = clear i }))
+
       here : setOf g (j .block) ≡ s
       here = let ok : GoodJob g s (n .entry s) j = rw clearing at (inv .jobs s) in ok .here
+
       f : AskFrame n j (ask n j (j .source))
       f = ask-frame n j (j .source)
+
       b : Matches (begin n j) (afterRoundOne y (home n (j .block)) j) × Invariant (ghostOf (begin n j) (afterRoundOne y (home n (j .block)) j))
       b = begin-lifts n y j (subst (AlmostMatches n y) (sym here) sh) inv (rw here clearing) (rw (here, e) refl) (λ c. rw here (quiet c))
 
@@ -113,22 +129,27 @@ module _ (n : Machine) (y : Added) (s : ℕ) (h : Progress) (sh : AlmostMatches 
       here = here-is j (One 1) e
   goes-on j (One (suc (suc l))) e = subst (λ k. Lifted n y (close k s)) (sym (serving-is n s (Some now) low))
       (lifted-after n y (setServing n s (Some now)) y (close (setServing n s (Some now)) s) refl
-          (record { kept = refl; geometry = refl; rows = refl; turn = refl })
+      (record { kept = refl; geometry = refl; rows = refl; turn = refl })
       (close-lifts (setServing n s (Some now)) y (record {
-          serving = update-each (λ t a. SameProgress a (y .progress t)) (n .serving) s (Some now)
-              (rw open-here (st .0, in-round-one (h .stage) (suc (suc l)) (suc l) (st .1))) (λ t _. sh .serving t);
-          requests = sh .requests; mails = sh .mails; pendings = sh .pendings;
-          weights = update-each (λ t a. n .count t ≡ weigh (commandWeight g t) (n .commands)
-                + (weigh (responseWeight g t) (n .responses) + (weigh (memoryWeight g t) (n .memoryCommands) + ackOwed a)))
-              (n .serving) s (Some now) (rw e at (sh .weights s)) (λ t _. sh .weights t);
-          left = update-each (λ t a. Left a (weigh (commandOne g t) (n .commands) + weigh (responseWeight g t) (n .responses)))
-              (n .serving) s (Some now) (let q = k .0 in (omega arith, omega arith)) (λ t q. sh .left t q) })
-        inv s h open-here low (λ t ne o. update-there (n .serving) s (Some now) t ne ∙ owed t ne o)))
+        serving = update-each (λ t a. SameProgress a (y .progress t)) (n .serving) s (Some now)
+            (rw open-here (st .0, in-round-one (h .stage) (suc (suc l)) (suc l) (st .1))) (λ t _. sh .serving t);
+        requests = sh .requests;
+        mails = sh .mails;
+        pendings = sh .pendings;
+        weights = update-each (λ t a. n .count t ≡ weigh (commandWeight g t) (n .commands)
+            + (weigh (responseWeight g t) (n .responses) + (weigh (memoryWeight g t) (n .memoryCommands) + ackOwed a)))
+            (n .serving) s (Some now) (rw e at (sh .weights s)) (λ t _. sh .weights t);
+        left = update-each (λ t a. Left a (weigh (commandOne g t) (n .commands) + weigh (responseWeight g t) (n .responses)))
+            (n .serving) s (Some now) (let q = k .0 in (omega arith, omega arith)) (λ t q. sh .left t q);
+      })
+      inv s h open-here low (λ t ne o. update-there (n .serving) s (Some now) t ne ∙ owed t ne o)))
     where
       now : Transaction
       now = record { job = j; round = One (suc l) }
+
       k : (suc (suc l) ≡ suc out) × (0 < suc (suc l))
       k = rw e at left
+
       st : (j ≡ h .job) × InRound (h .stage) (One (suc (suc l)))
       st = rw (e, open-here) at (sh .serving s)
 

@@ -15,7 +15,7 @@ use Rattle.machine.proofs.Frames.{newest-progress, newest-way}
 -- what holds of the block, of the set's other blocks, and of the blocks of other sets, holds of all
 all-blocks : (n : Sizes) (P : ℕ → Option Progress → ℕ → BlockAtMemory → Type 0) (f : ℕ → Option Progress) (a : ℕ → BlockAtMemory) (s b : ℕ)
     (h : Option Progress) (k : BlockAtMemory) → setOf n b ≡ s → P s h b k → ((i : ℕ) → (i ≡ b → ⊥) → setOf n i ≡ s → P s h i (a i))
-        → ((t i : ℕ) → (t ≡ s → ⊥) → setOf n i ≡ t → P t (f t) i (a i))
+    → ((t i : ℕ) → (t ≡ s → ⊥) → setOf n i ≡ t → P t (f t) i (a i))
     → (i : ℕ) → P (setOf n i) (update f s h (setOf n i)) i (update a b k i)
 all-blocks n P f a s b h k home here same other i =
     update-each (λ t z. setOf n i ≡ t → P t z i (update a b k i)) f s h

@@ -64,22 +64,30 @@ no-pending (Waiting ws) e = cc
 
 pub quiet-from-count : (m : Machine) (x : Added) → Matches m x → (s : ℕ) → m .count s ≡ 0
     → ((c : ℕ) → x .mailbox s c .mail ≡ Nothing) × ((b : ℕ) → setOf (m .geometry) b ≡ s → x .pending b ≡ Idle) × (ackOwed (m .serving s) ≡ 0)
-quiet-from-count m x sh s z =
-    ((λ c. no-slot (x .mailbox s c .mail) (rw (no-commands c, no-responses c) at (sh .mails s c))),
-      (λ b e. no-pending (x .pending b) (rw (no-memory-commands b e, no-writebacks b e) at (sh .pendings b))), no-ack)
+quiet-from-count m x sh s z = (
+  (λ c. no-slot (x .mailbox s c .mail) (rw (no-commands c, no-responses c) at (sh .mails s c))),
+  (λ b e. no-pending (x .pending b) (rw (no-memory-commands b e, no-writebacks b e) at (sh .pendings b))),
+  no-ack,
+)
   where
     n : Sizes
     n = m .geometry
+
     sum : 0 ≡ weigh (commandWeight n s) (m .commands)
         + (weigh (responseWeight n s) (m .responses) + (weigh (memoryWeight n s) (m .memoryCommands) + ackOwed (m .serving s)))
     sum = sym z ∙ sh .weights s
+
     no-commands : (c : ℕ) → kept-by (toMailbox n s c) (m .commands) ≡ []
     no-commands c = weigh-none (commandWeight n s) (toMailbox n s c) (command-heavy n s c) (m .commands) (omega arith)
+
     no-responses : (c : ℕ) → kept-by (fromMailbox n s c) (m .responses) ≡ []
     no-responses c = weigh-none (responseWeight n s) (fromMailbox n s c) (response-heavy n s c) (m .responses) (omega arith)
+
     no-memory-commands : (b : ℕ) → setOf n b ≡ s → kept-by (atBlock b) (m .memoryCommands) ≡ []
     no-memory-commands b e = weigh-none (memoryWeight n s) (atBlock b) (memory-heavy n s b e) (m .memoryCommands) (omega arith)
+
     no-writebacks : (b : ℕ) → setOf n b ≡ s → kept-by (writesBack b) (m .responses) ≡ []
     no-writebacks b e = weigh-none (responseWeight n s) (writesBack b) (writes-back-heavy n s b e) (m .responses) (omega arith)
+
     no-ack : ackOwed (m .serving s) ≡ 0
     no-ack = omega arith

@@ -37,17 +37,26 @@ pub weaker-same : (e : Entry) → Weaker e e
 weaker-same e = record { had = λ h. h; same = λ _. refl; left = λ _ _ t. t; right = λ _ _ t. t; readsOnly = λ _ l. l }
 
 pub weaker-none : (e : Entry) → Weaker noEntry e
-weaker-none e = record { had = λ h. absurd (false≢true h); same = λ h. absurd (false≢true h); left = λ _ h. absurd (false≢true h);
-    right = λ _ h. absurd (false≢true h); readsOnly = λ h. absurd (false≢true h) }
+weaker-none e = record {
+  had = λ h. absurd (false≢true h);
+  same = λ h. absurd (false≢true h);
+  left = λ _ h. absurd (false≢true h);
+  right = λ _ h. absurd (false≢true h);
+  readsOnly = λ h. absurd (false≢true h);
+}
 
 -- a copy that is read only excludes less than an owner
 weaker-read-only : (shown : State) (b : ℕ) (e : Entry) → owning shown ≡ true → e .block ≡ b → readOnly (e .state) ≡ true
     → goTogether (e .state) S ≡ true → goTogether S (e .state) ≡ true → Weaker e (entryIn shown b)
 weaker-read-only shown b e o bl l t u =
     let i = held-entry shown b (owning-held shown o) in
-    record { had = λ _. rw (i .0) (owning-held shown o); same = λ _. i .1 ∙ sym bl;
-      left = λ st _ q. rw (beside-owner shown st o (rw (i .0) at q)) t; right = λ st _ q. rw (owner-beside shown st o (rw (i .0) at q)) u;
-          readsOnly = λ _ _. l }
+    record {
+      had = λ _. rw (i .0) (owning-held shown o);
+      same = λ _. i .1 ∙ sym bl;
+      left = λ st _ q. rw (beside-owner shown st o (rw (i .0) at q)) t;
+      right = λ st _ q. rw (owner-beside shown st o (rw (i .0) at q)) u;
+      readsOnly = λ _ _. l;
+    }
 
 -- an owner that lets go excludes less
 pub weaker-owner : (shown keeps : State) (b : ℕ) → owning shown ≡ true → writable keeps ≡ false → Weaker (entryIn keeps b) (entryIn shown b)
@@ -88,10 +97,10 @@ pub dirty-after : (f : ℕ → ℕ → ℕ → Way) (s c p : ℕ) (v : Way)
     → (t b : ℕ) → DirtyCopy (f t) b → DirtyCopy (update₃ f s c p v t) b
 dirty-after f s c p v still t b q =
     let r = update₂-each (λ u d h. (w : ℕ) → dirty (f u d w .state) ≡ true → (dirty (h w .state) ≡ true) × (h w .block ≡ f u d w .block))
-          f s c (update (f s c) p v)
-            (update-each (λ w z. dirty (f s c w .state) ≡ true → (dirty (z .state) ≡ true) × (z .block ≡ f s c w .block)) (f s c) p v still
-              (λ w _ h. (h, refl)))
-          (λ u d _ w h. (h, refl)) t (q .cache) (q .way) (q .state) in
+    f s c (update (f s c) p v)
+    (update-each (λ w z. dirty (f s c w .state) ≡ true → (dirty (z .state) ≡ true) × (z .block ≡ f s c w .block)) (f s c) p v still
+    (λ w _ h. (h, refl)))
+    (λ u d _ w h. (h, refl)) t (q .cache) (q .way) (q .state) in
     record { cache = q .cache; way = q .way; state = r .0; block = r .1 ∙ q .block }
 
 -- one way changes, and its mailbox
@@ -128,15 +137,22 @@ not-sent j s b n q = let e : _≡_ {A = Progress} (atStage s j) (atStage Sent (q
 -- one way changes: it matters only where it was the dirty copy itself
 pub newest-way : (f : ℕ → ℕ → ℕ → Way) (s c p : ℕ) (v : Way) (t : ℕ) (h : Option Progress) (b : ℕ) (k : BlockAtMemory) → Newest (f t) h b k
     → (t ≡ s → dirty (f s c p .state) ≡ true → f s c p .block ≡ b → Newest (update₃ f s c p v t) h b k) → Newest (update₃ f s c p v t) h b k
-newest-way f s c p v t h b k fr mine = elim fr [ inl q ↦ inl q | inr q ↦ elim q [ inr u ↦ inr (inr u) | inl u ↦
-    elim (cases t (u .cache) (u .way) (u .state) (u .block))
-      [ inl z ↦ inr (inl (record { cache = u .cache; way = u .way; state = z .0; block = z .1 })) | inr z ↦ mine (z .0) (z .1) (z .2) ] ] ]
+newest-way f s c p v t h b k fr mine = elim fr [
+  | inl q ↦ inl q
+  | inr q ↦ elim q [
+    | inr u ↦ inr (inr u)
+    | inl u ↦
+        elim (cases t (u .cache) (u .way) (u .state) (u .block))
+        [ inl z ↦ inr (inl (record { cache = u .cache; way = u .way; state = z .0; block = z .1 })) | inr z ↦ mine (z .0) (z .1) (z .2) ]
+  ]
+]
   where
     -- the dirty copy of the block is another one, or it was this way
     StillOrThis : ℕ → Way → Type 0
     StillOrThis u z = ((dirty (z .state) ≡ true) × (z .block ≡ b)) ⊎ ((u ≡ s) × (dirty (f s c p .state) ≡ true) × (f s c p .block ≡ b))
+
     cases : (u d w : ℕ) → dirty (f u d w .state) ≡ true → f u d w .block ≡ b → StillOrThis u (update₃ f s c p v u d w)
     cases = update₂-each (λ u d z. (w : ℕ) → dirty (f u d w .state) ≡ true → f u d w .block ≡ b → StillOrThis u (z w)) f s c (update (f s c) p v)
         (update-each (λ w z. dirty (f s c w .state) ≡ true → f s c w .block ≡ b → StillOrThis s z) (f s c) p v
-          (λ x y. inr (refl, x, y)) (λ w _ x y. inl (x, y)))
+        (λ x y. inr (refl, x, y)) (λ w _ x y. inl (x, y)))
         (λ u d _ w x y. inl (x, y))

@@ -17,11 +17,11 @@ use Rattle.machine.proofs.Updates.{update, update₂, update₃}
 
 -- How far the transaction of a set has come. Round one is Evicting and then Clearing, round two is the rest.
 pub data Stage : Type 0 where
-  Evicting : Stage     -- the requestor's way has to be written back, and the command is on its way
-  Clearing : Stage     -- that is done or was not needed; caches still let go of what they must, and answer
-  Asked : Stage        -- the words are asked for: from the memory, from the owner, or by a Wakeup for the requestor's own copy
-  Sent : Stage         -- the words are on their way to the requestor
-  Filled : Stage       -- the requestor has the block; the rest of the answers come in
+  Evicting : Stage  -- the requestor's way has to be written back, and the command is on its way
+  Clearing : Stage  -- that is done or was not needed; caches still let go of what they must, and answer
+  Asked : Stage  -- the words are asked for: from the memory, from the owner, or by a Wakeup for the requestor's own copy
+  Sent : Stage  -- the words are on their way to the requestor
+  Filled : Stage  -- the requestor has the block; the rest of the answers come in
 
 -- a set's job and its stage
 pub record Progress : Type 0 where
@@ -40,7 +40,7 @@ pub data Mail : Type 0 where
 -- a cache in a set: the entries that it still goes by, and its mail. The directory records final entries at once; the cache
 -- knows of a change when the command that makes it has arrived.
 pub record Mailbox : Type 0 where
-  pub known : ℕ → Entry          -- way
+  pub known : ℕ → Entry  -- way
   pub mail : Mail
 
 -- a cache: the order that it waits with, and its request while that has not been accepted
@@ -51,9 +51,9 @@ pub record Waiter : Type 0 where
 -- what is on its way between the directory and the memory about a block
 pub data Pending : Type 0 where
   Idle : Pending
-  Reading : ℕ → ℕ → State → Pending        -- a memory read, for a cache, a way and the state that the way takes
-  Coming : Words → Pending                 -- words in a Writeback
-  Waiting : Words → Pending                -- words in a memory write
+  Reading : ℕ → ℕ → State → Pending  -- a memory read, for a cache, a way and the state that the way takes
+  Coming : Words → Pending  -- words in a Writeback
+  Waiting : Words → Pending  -- words in a memory write
 
 -- a block: the memory's words, what is on its way, and the latest words, which the last store on the block left
 pub record BlockAtMemory : Type 0 where
@@ -64,37 +64,77 @@ pub record BlockAtMemory : Type 0 where
 -- all of it: what the machine has at each key, and what the proof adds
 pub record Ghost : Type 0 where
   pub geometry : Sizes
-  pub entry : ℕ → ℕ → ℕ → Entry            -- set, cache, way: the directory's
-  pub way : ℕ → ℕ → ℕ → Way                -- set, cache, way
-  pub mailbox : ℕ → ℕ → Mailbox            -- set, cache
-  pub progress : ℕ → Option Progress       -- set
-  pub waiter : ℕ → Waiter                  -- cache
-  pub atMemory : ℕ → BlockAtMemory         -- block
+  pub entry : ℕ → ℕ → ℕ → Entry  -- set, cache, way: the directory's
+  pub way : ℕ → ℕ → ℕ → Way  -- set, cache, way
+  pub mailbox : ℕ → ℕ → Mailbox  -- set, cache
+  pub progress : ℕ → Option Progress  -- set
+  pub waiter : ℕ → Waiter  -- cache
+  pub atMemory : ℕ → BlockAtMemory  -- block
 
 -- One part changed.
 abbrev pub setWay : Ghost → ℕ → ℕ → ℕ → Way → Ghost
-setWay g s c w v = record { geometry = g .geometry; entry = g .entry; way = update₃ (g .way) s c w v; mailbox = g .mailbox; progress = g .progress;
-    waiter = g .waiter; atMemory = g .atMemory }
+setWay g s c w v = record {
+  geometry = g .geometry;
+  entry = g .entry;
+  way = update₃ (g .way) s c w v;
+  mailbox = g .mailbox;
+  progress = g .progress;
+  waiter = g .waiter;
+  atMemory = g .atMemory;
+}
 
 abbrev pub setMailbox : Ghost → ℕ → ℕ → Mailbox → Ghost
-setMailbox g s c x = record { geometry = g .geometry; entry = g .entry; way = g .way; mailbox = update₂ (g .mailbox) s c x; progress = g .progress;
-    waiter = g .waiter; atMemory = g .atMemory }
+setMailbox g s c x = record {
+  geometry = g .geometry;
+  entry = g .entry;
+  way = g .way;
+  mailbox = update₂ (g .mailbox) s c x;
+  progress = g .progress;
+  waiter = g .waiter;
+  atMemory = g .atMemory;
+}
 
 abbrev pub setProgress : Ghost → ℕ → Option Progress → Ghost
-setProgress g s h = record { geometry = g .geometry; entry = g .entry; way = g .way; mailbox = g .mailbox; progress = update (g .progress) s h;
-    waiter = g .waiter; atMemory = g .atMemory }
+setProgress g s h = record {
+  geometry = g .geometry;
+  entry = g .entry;
+  way = g .way;
+  mailbox = g .mailbox;
+  progress = update (g .progress) s h;
+  waiter = g .waiter;
+  atMemory = g .atMemory;
+}
 
 abbrev pub setWaiter : Ghost → ℕ → Waiter → Ghost
-setWaiter g c d = record { geometry = g .geometry; entry = g .entry; way = g .way; mailbox = g .mailbox; progress = g .progress;
-    waiter = update (g .waiter) c d; atMemory = g .atMemory }
+setWaiter g c d = record {
+  geometry = g .geometry;
+  entry = g .entry;
+  way = g .way;
+  mailbox = g .mailbox;
+  progress = g .progress;
+  waiter = update (g .waiter) c d;
+  atMemory = g .atMemory;
+}
 
 abbrev pub setBlock : Ghost → ℕ → BlockAtMemory → Ghost
-setBlock g b k = record { geometry = g .geometry; entry = g .entry; way = g .way; mailbox = g .mailbox; progress = g .progress; waiter = g .waiter;
-    atMemory = update (g .atMemory) b k }
+setBlock g b k = record {
+  geometry = g .geometry;
+  entry = g .entry;
+  way = g .way;
+  mailbox = g .mailbox;
+  progress = g .progress;
+  waiter = g .waiter;
+  atMemory = update (g .atMemory) b k;
+}
 
 -- of a new fabric
 abbrev pub newGhost : Sizes → (ℕ → Words) → Ghost
 newGhost geometry content = record {
-  geometry = geometry; entry = λ _ _ _. noEntry; way = λ _ _ _. noWay; mailbox = λ _ _. record { known = λ _. noEntry; mail = Nothing };
-  progress = λ _. None; waiter = λ _. record { kept = None; request = None };
-  atMemory = λ b. record { memory = content b; pending = Idle; latest = content b } }
+  geometry = geometry;
+  entry = λ _ _ _. noEntry;
+  way = λ _ _ _. noWay;
+  mailbox = λ _ _. record { known = λ _. noEntry; mail = Nothing };
+  progress = λ _. None;
+  waiter = λ _. record { kept = None; request = None };
+  atMemory = λ b. record { memory = content b; pending = Idle; latest = content b };
+}

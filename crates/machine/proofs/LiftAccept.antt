@@ -78,8 +78,10 @@ module _ (m : Machine) (x : Added) (sh : Matches m x) (inv : Invariant (ghostOf 
     (i : ℕ) (q : Request) (e : nth (m .requests) i ≡ Some q) (free : m .count (home m (q .block)) ≡ 0) where
   abbrev g : Sizes
   g = m .geometry
+
   abbrev s : ℕ
   s = home m (q .block)
+
   abbrev j : Job
   j = jobFor m q
 
@@ -104,9 +106,15 @@ module _ (m : Machine) (x : Added) (sh : Matches m x) (inv : Invariant (ghostOf 
 
   abbrev mailboxesNow : ℕ → Mailbox
   mailboxesNow c = record { known = x .mailbox s c .known; mail = firstMail m q c }
+
   abbrev afterAccept : Added
-  afterAccept = record { mailbox = update (x .mailbox) s mailboxesNow; progress = update (x .progress) s (Some (atStage (own .stage) j));
-    request = update (x .request) (q .cache) None; pending = x .pending; latest = x .latest }
+  afterAccept = record {
+    mailbox = update (x .mailbox) s mailboxesNow;
+    progress = update (x .progress) s (Some (atStage (own .stage) j));
+    request = update (x .request) (q .cache) None;
+    pending = x .pending;
+    latest = x .latest;
+  }
 
   abbrev asking : Machine
   asking = withRequests m (without (m .requests) i)
@@ -116,11 +124,18 @@ module _ (m : Machine) (x : Added) (sh : Matches m x) (inv : Invariant (ghostOf 
   accepted fr cs = withCommands (enter asking j (length fr)) cs
 
   invariant-accepted : (fr cs : List Command) → Invariant (ghostOf (accepted fr cs) afterAccept)
-  invariant-accepted fr cs = subst (λ (ds : ℕ → Waiter). Invariant (record { geometry = m .geometry; entry = accepted fr cs .entry; way = m .way;
-          mailbox = afterAccept .mailbox; progress = afterAccept .progress; waiter = ds; atMemory = ghostOf m x .atMemory }))
+  invariant-accepted fr cs = subst (λ (ds : ℕ → Waiter). Invariant (record {
+    geometry = m .geometry;
+    entry = accepted fr cs .entry;
+    way = m .way;
+    mailbox = afterAccept .mailbox;
+    progress = afterAccept .progress;
+    waiter = ds;
+    atMemory = ghostOf m x .atMemory;
+  }))
       (waiter-request (m .kept) (x .request) (q .cache))
       (accept-keeps (ghostOf m x) inv s j (own .stage) (firstMail m q) idle (planned m x inv lawful q idle asked) (own .roundOne)
-        (served-by (ghostOf m x) inv q j asked refl refl) (own-mailbox m x q own) (others-part m x inv lawful q idle asked) (quiet .1) room)
+      (served-by (ghostOf m x) inv q j asked refl refl) (own-mailbox m x q own) (others-part m x inv lawful q idle asked) (quiet .1) room)
 
   sum : 0 ≡ weigh (commandWeight g s) (m .commands) + (weigh (responseWeight g s) (m .responses)
       + (weigh (memoryWeight g s) (m .memoryCommands) + ackOwed (m .serving s)))
@@ -137,77 +152,103 @@ module _ (m : Machine) (x : Added) (sh : Matches m x) (inv : Invariant (ghostOf 
 
   almost : (fr cs : List Command) → firstRound m q ≡ fr → cs ≡ m .commands ++ fr → AlmostMatches (accepted fr cs) afterAccept s
   almost fr cs fi ci = record {
-      serving = update-both (λ t a b. SameProgress a b) (m .serving) (x .progress) s (Some (record { job = j; round = One (length fr) }))
-          (Some (atStage (own .stage) j)) (refl, one-in-round (own .stage) (length fr) (own .roundOne)) (λ t _. sh .serving t);
-      requests = update-each (λ c z. kept-by (λ (a : Request). eqb (a .cache) c) (without (m .requests) i) ≡ requestSlot z) (x .request)
-          (q .cache) None
-          (took-request m x sh i q e .1)
-          (λ c n. taken-other (λ (a : Request). eqb (a .cache) c) (m .requests) i q e (ne-eqb (q .cache) c (λ k. n (sym k))) ∙ sh .requests c);
-      mails = update-each (λ t f. (c : ℕ) → map To (kept-by (toMailbox g t c) cs)
-            ++ map From (kept-by (fromMailbox g t c) (m .responses)) ≡ mailSlot (f c .mail)) (x .mailbox) s mailboxesNow
-          (λ c. let z = both-none To From (kept-by (toMailbox g s c) (m .commands)) (kept-by (fromMailbox g s c) (m .responses))
-                  (rw (quiet .0 c) at (sh .mails s c)) in
-            rw (kept-all s c, z .0, z .1) (append-nil (map To (kept-by (toMailbox g s c) (firstRound m q))) ∙ mail-slot c))
-          (λ t ne c. rw (kept-all t c, kept-else g s t c ne (firstRound m q) inside, append-nil (kept-by (toMailbox g t c) (m .commands)))
-            (sh .mails t c));
-      pendings = sh .pendings;
-      weights = update-both (λ t a z. a ≡ weigh (commandWeight g t) cs + (weigh (responseWeight g t) (m .responses)
-            + (weigh (memoryWeight g t) (m .memoryCommands) + ackOwed z)))
-          (m .count) (m .serving) s (1 + length fr) (Some (record { job = j; round = One (length fr) }))
-          (let u = weigh-all (commandWeight g s) in let o = ones-here g s (firstRound m q) inside .1 in
-            let l = ap length fi in let v = sum in omega arith)
-          (λ t ne. let u = weigh-all (commandWeight g t) in let o = ones-else g s t ne (firstRound m q) inside .1 in
-            let v = sh .weights t in omega arith);
-      left = λ t ne. let u = weigh-all (commandOne g t) in let o = ones-else g s t ne (firstRound m q) inside .0 in
-          let k : weigh (commandOne g t) (m .commands) + weigh (responseWeight g t) (m .responses)
-                ≡ weigh (commandOne g t) cs + weigh (responseWeight g t) (m .responses) = omega arith in
-          rw (update-there (m .serving) s (Some (record { job = j; round = One (length fr) })) t ne) (subst (Left (m .serving t)) k (sh .left t)) }
+    serving = update-both (λ t a b. SameProgress a b) (m .serving) (x .progress) s (Some (record { job = j; round = One (length fr) }))
+        (Some (atStage (own .stage) j)) (refl, one-in-round (own .stage) (length fr) (own .roundOne)) (λ t _. sh .serving t);
+    requests = update-each (λ c z. kept-by (λ (a : Request). eqb (a .cache) c) (without (m .requests) i) ≡ requestSlot z) (x .request)
+        (q .cache) None
+        (took-request m x sh i q e .1)
+        (λ c n. taken-other (λ (a : Request). eqb (a .cache) c) (m .requests) i q e (ne-eqb (q .cache) c (λ k. n (sym k))) ∙ sh .requests c);
+    mails = update-each (λ t f. (c : ℕ) → map To (kept-by (toMailbox g t c) cs)
+        ++ map From (kept-by (fromMailbox g t c) (m .responses)) ≡ mailSlot (f c .mail)) (x .mailbox) s mailboxesNow
+        (λ c. let z = both-none To From (kept-by (toMailbox g s c) (m .commands)) (kept-by (fromMailbox g s c) (m .responses))
+        (rw (quiet .0 c) at (sh .mails s c)) in
+        rw (kept-all s c, z .0, z .1) (append-nil (map To (kept-by (toMailbox g s c) (firstRound m q))) ∙ mail-slot c))
+        (λ t ne c. rw (kept-all t c, kept-else g s t c ne (firstRound m q) inside, append-nil (kept-by (toMailbox g t c) (m .commands)))
+        (sh .mails t c));
+    pendings = sh .pendings;
+    weights = update-both (λ t a z. a ≡ weigh (commandWeight g t) cs + (weigh (responseWeight g t) (m .responses)
+        + (weigh (memoryWeight g t) (m .memoryCommands) + ackOwed z)))
+        (m .count) (m .serving) s (1 + length fr) (Some (record { job = j; round = One (length fr) }))
+        (let u = weigh-all (commandWeight g s) in let o = ones-here g s (firstRound m q) inside .1 in
+        let l = ap length fi in let v = sum in omega arith)
+        (λ t ne. let u = weigh-all (commandWeight g t) in let o = ones-else g s t ne (firstRound m q) inside .1 in
+        let v = sh .weights t in omega arith);
+    left = λ t ne. let u = weigh-all (commandOne g t) in let o = ones-else g s t ne (firstRound m q) inside .0 in
+        let k : weigh (commandOne g t) (m .commands) + weigh (responseWeight g t) (m .responses)
+        ≡ weigh (commandOne g t) cs + weigh (responseWeight g t) (m .responses) = omega arith in
+        rw (update-there (m .serving) s (Some (record { job = j; round = One (length fr) })) t ne) (subst (Left (m .serving t)) k (sh .left t));
+  }
     where
       all : cs ≡ m .commands ++ firstRound m q
       all = ci ∙ ap (λ z. m .commands ++ z) (sym fi)
+
       kept-all : (t c : ℕ) → kept-by (toMailbox g t c) cs
           ≡ kept-by (toMailbox g t c) (m .commands) ++ kept-by (toMailbox g t c) (firstRound m q)
       kept-all t c = ap (kept-by (toMailbox g t c)) all ∙ kept-by-append (toMailbox g t c) (m .commands) (firstRound m q)
+
       weigh-all : (f : Command → ℕ) → weigh f cs ≡ weigh f (m .commands) + weigh f (firstRound m q)
       weigh-all f = ap (weigh f) all ∙ weigh-append f (m .commands) (firstRound m q)
 
   -- round one has commands
   sends : (k : Command) (ks : List Command) → firstRound m q ≡ k ∷ ks → Lifted m x (accepted (k ∷ ks) (m .commands ++ k ∷ ks))
-  sends k ks fi = record { added = afterAccept; matches = all-match (accepted (k ∷ ks) (m .commands ++ k ∷ ks)) afterAccept s
+  sends k ks fi = record {
+    added = afterAccept;
+    matches = all-match (accepted (k ∷ ks) (m .commands ++ k ∷ ks)) afterAccept s
         (almost (k ∷ ks) (m .commands ++ k ∷ ks) fi refl) here;
-      invariant = invariant-accepted (k ∷ ks) (m .commands ++ k ∷ ks);
-      owed = update-both (λ t a z. a ≡ 0 → z ≡ None) (m .count) (m .serving) s (1 + length (k ∷ ks)) (Some now) (λ z. absurd (some-owed z))
-          (λ t _. owed t);
-      latest = refl; kept = refl; geometry = refl; rows = refl; turn = refl }
+    invariant = invariant-accepted (k ∷ ks) (m .commands ++ k ∷ ks);
+    owed = update-both (λ t a z. a ≡ 0 → z ≡ None) (m .count) (m .serving) s (1 + length (k ∷ ks)) (Some now) (λ z. absurd (some-owed z))
+        (λ t _. owed t);
+    latest = refl;
+    kept = refl;
+    geometry = refl;
+    rows = refl;
+    turn = refl;
+  }
     where
       now : Transaction
       now = record { job = j; round = One (length (k ∷ ks)) }
+
       some-owed : 1 + length (k ∷ ks) ≡ 0 → ⊥
       some-owed z = omega arith
+
       here : Left (update (m .serving) s (Some now) s)
           (weigh (commandOne g s) (m .commands ++ k ∷ ks) + weigh (responseWeight g s) (m .responses))
       here = rw (update-here (m .serving) s (Some now))
           (let u = weigh-append (commandOne g s) (m .commands) (k ∷ ks) in
-            let o : weigh (commandOne g s) (k ∷ ks) ≡ length (k ∷ ks) = rw fi at (ones-here g s (firstRound m q) inside .0) in
-            let l = lighter g s (m .commands) in let v = sum in (omega arith, omega arith))
+          let o : weigh (commandOne g s) (k ∷ ks) ≡ length (k ∷ ks) = rw fi at (ones-here g s (firstRound m q) inside .0) in
+          let l = lighter g s (m .commands) in let v = sum in (omega arith, omega arith))
 
   -- round one has none: round two begins at once
   begins : firstRound m q ≡ [] → Lifted m x (begin (enter asking j 0) j)
-  begins fi = record { added = afterRoundOne afterAccept s j; matches = b .0; invariant = b .1; owed = λ t z. owes t (cases-eq t s) z;
-      latest = refl; kept = f .frame .kept; geometry = f .frame .geometry; rows = f .frame .rows; turn = f .frame .turn }
+  begins fi = record {
+    added = afterRoundOne afterAccept s j;
+    matches = b .0;
+    invariant = b .1;
+    owed = λ t z. owes t (cases-eq t s) z;
+    latest = refl;
+    kept = f .frame .kept;
+    geometry = f .frame .geometry;
+    rows = f .frame .rows;
+    turn = f .frame .turn;
+  }
     where
       n : Machine
       n = accepted [] (m .commands)
+
       quiet-mail : (c : ℕ) → afterAccept .mailbox s c .mail ≡ Nothing
       quiet-mail c = rw (update-here (x .mailbox) s mailboxesNow) (no-slot (firstMail m q c) (rw fi at (mail-slot c)))
+
       clear : own .stage ≡ Clearing
       clear = own .noEviction (front-none (ownCommand m q) (cond (isWrite (q .access)) (dismiss m (q .cache) (q .block) (g .caches)) []) fi)
+
       b : Matches (begin n j) (afterRoundOne afterAccept s j) × Invariant (ghostOf (begin n j) (afterRoundOne afterAccept s j))
       b = begin-lifts n afterAccept j (almost [] (m .commands) fi (sym (append-nil (m .commands)))) (invariant-accepted [] (m .commands))
           (update-here (x .progress) s (Some (atStage (own .stage) j)) ∙ ap (λ (z : Stage). Some (atStage z j)) clear)
           (rw (update-here (m .serving) s (Some (record { job = j; round = One 0 }))) refl) quiet-mail
+
       f : AskFrame n j (ask n j (j .source))
       f = ask-frame n j (j .source)
+
       owes : (t : ℕ) → (t ≡ s) ⊎ (t ≡ s → ⊥) → begin n j .count t ≡ 0 → begin n j .serving t ≡ None
       owes t (inl p) z = absurd (some-owed (f .more) (rw p at z) (update-here (m .count) s (1 + 0)))
         where

@@ -43,33 +43,45 @@ quiet-filled g inv s j Asked h quiet idle two = go (j .source) refl
   where
     good : GoodJob (g .geometry) s (g .entry s) j
     good = rw h at (inv .jobs s)
+
     go : (z : Source) → j .source ≡ z → Asked ≡ Filled
     go Memory i = let a = rw (good .here, h) at (inv .pendings (j .block)) .0 refl in let b = idle (j .block) (good .here) in cc
     go OwnCopy i = let a = requestor-at g inv s j Asked h .2 .1 in let b = quiet (j .requestor) in cc
     go (Owner o p shown keeps writeback) i =
         let law : OwnerLaw j o p shown keeps writeback = subst (GoodSource j (g .entry s)) i (good .source) in
         let it = mailbox-at (g .progress s) j Asked (Giver p shown keeps writeback) o (g .entry s o) (g .mailbox s o) h
-              (giver-is j o p shown keeps writeback i (law .other)) (inv .mailboxes s o) in
+        (giver-is j o p shown keeps writeback i (law .other)) (inv .mailboxes s o) in
         let a = it .2 .1 in let b = quiet o in cc
 
 abbrev pub afterClose : Added → ℕ → Added
-afterClose x s = record { mailbox = x .mailbox; progress = update (x .progress) s None; request = x .request; pending = x .pending;
-    latest = x .latest }
+afterClose x s = record {
+  mailbox = x .mailbox;
+  progress = update (x .progress) s None;
+  request = x .request;
+  pending = x .pending;
+  latest = x .latest;
+}
 
 module _ (m : Machine) (x : Added) (sh : Matches m x) (inv : Invariant (ghostOf m x)) (s : ℕ) (h : Progress) (i : x .progress s ≡ Some h) where
   closed : m .count s ≡ 0 → Matches (setServing m s None) (afterClose x s) × Invariant (ghostOf (setServing m s None) (afterClose x s))
-  closed z = (record {
-        serving = update-both (λ t a b. SameProgress a b) (m .serving) (x .progress) s None None tt (λ t _. sh .serving t);
-        requests = sh .requests; mails = sh .mails; pendings = sh .pendings;
-        weights = update-each (λ t a. m .count t ≡ weigh (commandWeight (m .geometry) t) (m .commands)
-              + (weigh (responseWeight (m .geometry) t) (m .responses) + (weigh (memoryWeight (m .geometry) t) (m .memoryCommands) + ackOwed a)))
-            (m .serving) s None (rw (q .2) at (sh .weights s)) (λ t _. sh .weights t);
-        left = update-each (λ t a. Left a (weigh (commandOne (m .geometry) t) (m .commands) + weigh (responseWeight (m .geometry) t) (m .responses)))
-            (m .serving) s None tt (λ t _. sh .left t) },
-      close-keeps (ghostOf m x) inv s (h .job) (i ∙ ap (λ (k : Stage). Some (atStage k (h .job))) filled) (q .0) (q .1))
+  closed z = (
+    record {
+      serving = update-both (λ t a b. SameProgress a b) (m .serving) (x .progress) s None None tt (λ t _. sh .serving t);
+      requests = sh .requests;
+      mails = sh .mails;
+      pendings = sh .pendings;
+      weights = update-each (λ t a. m .count t ≡ weigh (commandWeight (m .geometry) t) (m .commands)
+          + (weigh (responseWeight (m .geometry) t) (m .responses) + (weigh (memoryWeight (m .geometry) t) (m .memoryCommands) + ackOwed a)))
+          (m .serving) s None (rw (q .2) at (sh .weights s)) (λ t _. sh .weights t);
+      left = update-each (λ t a. Left a (weigh (commandOne (m .geometry) t) (m .commands) + weigh (responseWeight (m .geometry) t) (m .responses)))
+          (m .serving) s None tt (λ t _. sh .left t);
+    },
+    close-keeps (ghostOf m x) inv s (h .job) (i ∙ ap (λ (k : Stage). Some (atStage k (h .job))) filled) (q .0) (q .1),
+  )
     where
       q : ((c : ℕ) → x .mailbox s c .mail ≡ Nothing) × ((b : ℕ) → setOf (m .geometry) b ≡ s → x .pending b ≡ Idle) × (ackOwed (m .serving s) ≡ 0)
       q = quiet-from-count m x sh s z
+
       round-two : (t : Option Transaction) → SameProgress t (Some h) → ackOwed t ≡ 0 → InRound (h .stage) Two
       round-two None a o = absurd a
       round-two (Some t) a o = go (t .round) (a .1) o
@@ -77,6 +89,7 @@ module _ (m : Machine) (x : Added) (sh : Matches m x) (inv : Invariant (ghostOf 
           go : (r : Round) → InRound (h .stage) r → ackOwed (Some (record { job = t .job; round = r })) ≡ 0 → InRound (h .stage) Two
           go Two f o = f
           go (One n) f o = grind arith
+
       filled : h .stage ≡ Filled
       filled = quiet-filled (ghostOf m x) inv s (h .job) (h .stage) i (q .0) (q .1) (round-two (m .serving s) (rw i at (sh .serving s)) (q .2))
 
@@ -86,10 +99,24 @@ module _ (m : Machine) (x : Added) (sh : Matches m x) (inv : Invariant (ghostOf 
     where
       go : (t : Bool) → eqb (m .count s) 0 ≡ t → Lifted m x (cond t (setServing m s None) m)
       go true e = let q = closed (eqb-true (m .count s) 0 e) in record {
-          added = afterClose x s; matches = q .0; invariant = q .1;
-          owed = update-each (λ a z. m .count a ≡ 0 → z ≡ None) (m .serving) s None (λ _. refl) else;
-          latest = refl; kept = refl; geometry = refl; rows = refl; turn = refl }
+        added = afterClose x s;
+        matches = q .0;
+        invariant = q .1;
+        owed = update-each (λ a z. m .count a ≡ 0 → z ≡ None) (m .serving) s None (λ _. refl) else;
+        latest = refl;
+        kept = refl;
+        geometry = refl;
+        rows = refl;
+        turn = refl;
+      }
       go false e = record {
-          added = x; matches = sh; invariant = inv;
-          owed = λ a z. ⊎-elim (λ p. absurd (eqb-false (m .count s) 0 e (rw p at z))) (λ n. else a n z) (cases-eq a s);
-          latest = refl; kept = refl; geometry = refl; rows = refl; turn = refl }
+        added = x;
+        matches = sh;
+        invariant = inv;
+        owed = λ a z. ⊎-elim (λ p. absurd (eqb-false (m .count s) 0 e (rw p at z))) (λ n. else a n z) (cases-eq a s);
+        latest = refl;
+        kept = refl;
+        geometry = refl;
+        rows = refl;
+        turn = refl;
+      }

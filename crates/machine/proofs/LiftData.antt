@@ -30,22 +30,28 @@ pub deliver-data : (content : ℕ → Words) (m : Machine) (past : List Event) (
     → Keeps content m past (delivers 1 i) (obey (withCommands m (without (m .commands) i)) (SetTagData c b w next ws sender))
 deliver-data content m past x r i c b w next ws sender e free =
     fill-lifts content m past x r i k e free (λ _. refl) w (o .job) Sent (λ _ z. z) (o .progress) ce (o .block) (o .way)
-      (rw (eq-eqb c (o .job .requestor) ce) at (rw (o .progress) at (r .inv .waits s c)))
-      next ws now (ok .writes) (λ _. o .next)
-      (λ _. data-keeps (ghostOf m x) (r .inv) s (o .job) ws (o .progress) (inl (now ∙ ap (x .latest) (o .block))))
-      (λ us wr. data-keeps (ghostOf m x) (r .inv) s (o .job) us (o .progress) (inr (ok .writes wr)))
+    (rw (eq-eqb c (o .job .requestor) ce) at (rw (o .progress) at (r .inv .waits s c)))
+    next ws now (ok .writes) (λ _. o .next)
+    (λ _. data-keeps (ghostOf m x) (r .inv) s (o .job) ws (o .progress) (inl (now ∙ ap (x .latest) (o .block))))
+    (λ us wr. data-keeps (ghostOf m x) (r .inv) s (o .job) us (o .progress) (inr (ok .writes wr)))
   where
     s : ℕ
     s = home m b
+
     k : Command
     k = SetTagData c b w next ws sender
+
     mail : x .mailbox s c .mail ≡ To k
     mail = took-command m x (r .matches) i k e s c refl refl .0
+
     o : DataFacts (x .progress s) c (m .entry s c) (x .mailbox s c) c b w next
     o = data-facts (x .progress s) c (m .entry s c) (x .mailbox s c) c b w next ws sender mail (r .inv .mailboxes s c)
+
     ce : c ≡ o .job .requestor
     ce = requestor-is (o .job) c (o .isRequestor)
+
     ok : GoodJob (m .geometry) s (m .entry s) (o .job)
     ok = rw (o .progress) at (r .inv .jobs s)
+
     now : ws ≡ x .latest b
     now = r .inv .mails s c c b w next ws sender mail

@@ -1,8 +1,8 @@
 -- The machine takes an order that hits.
 use mathlib.Core.Path.{_≡_, refl, sym, _∙_, ap, fun-ext}
-use mathlib.Core.Bool.{true, false, cond, _&&_}
+use mathlib.Core.Bool.{true, cond, _&&_}
 use mathlib.Core.Logic.{_⊎_, inl, inr}
-use mathlib.Core.List.{List, _∷_}
+use mathlib.Core.List.{List}
 use Prim.Native.Nat.{ℕ, _<_}
 use native.Mathlib.Omega.{arith}
 use lib.Dec.{eqb}
@@ -23,7 +23,6 @@ use Rattle.machine.specs.Orders.{holdingWay, finish}
 use Rattle.machine.specs.Runs.{Event, orders}
 use Rattle.machine.specs.Coherence.{waitingOrder, latest}
 use Rattle.machine.proofs.Updates.{update, update₃, update-each, update₂-each}
-use Rattle.machine.proofs.Ghost.{BlockAtMemory}
 use Rattle.machine.proofs.Promises.{known-held}
 use Rattle.machine.proofs.StepStore.{store-keeps}
 use Rattle.machine.proofs.Matches.{Added, ghostOf}
@@ -44,7 +43,7 @@ word-replaced ws k v l a b = grind (arith, tells)
 pub found-holding : (m : Machine) (c b w : ℕ) → holdingWay m c b ≡ Some w
     → (held (m .way (home m b) c w .state) ≡ true) × (m .way (home m b) c w .block ≡ b)
 found-holding m c b w e = let p = and-parts (held (m .way (home m b) c w .state)) (eqb (m .way (home m b) c w .block) b)
-      (lowest-passes (λ w. held (m .way (home m b) c w .state) && eqb (m .way (home m b) c w .block) b) (m .geometry .ways) w e) in
+    (lowest-passes (λ w. held (m .way (home m b) c w .state) && eqb (m .way (home m b) c w .block) b) (m .geometry .ways) w e) in
     (p .0, eqb-true (m .way (home m b) c w .block) b (p .1))
 
 -- a way with what it already has
@@ -76,39 +75,76 @@ module _ (content : ℕ → Words) (m : Machine) (past : List Event) (x : Added)
       go (inr n) = rw (ne-eqb c a (λ z. n (sym z))) (r .orders a .0)
 
   rooms-after : (v : Way) → Rooms (withWay m (home m b) c w v)
-  rooms-after v = record { requests = r .rooms .requests; commands = r .rooms .commands; responses = r .rooms .responses;
-      memoryCommands = r .rooms .memoryCommands }
+  rooms-after v = record {
+    requests = r .rooms .requests;
+    commands = r .rooms .commands;
+    responses = r .rooms .responses;
+    memoryCommands = r .rooms .memoryCommands;
+  }
 
   pub load-hits : Keeps content m past (orders c (Load b k))
       (finish m (home m b) c w (m .way (home m b) c w .state) (m .way (home m b) c w .words) (Load b k))
-  load-hits = (x, record {
-        bounds = r .bounds; lawful = r .lawful; owed = r .owed; words = r .words; orders = orders-after; turns = r .turns;
-        matches = record { serving = r .matches .serving; requests = r .matches .requests; mails = r .matches .mails; pendings = r .matches .pendings;
-          weights = r .matches .weights; left = r .matches .left };
-        inv = rw (way-put m (r .bounds) b c w same (ranges .0) (ranges .1),
-          update₃-id (m .way) (home m b) c w same (way-again (m .way (home m b) c w) b h here)) (r .inv);
-        rooms = rooms-after same },
-      (b, k, rw (eq-eqb c c refl) refl, ap (λ ws. wordOf ws k) words-now ∙ r .words b k small))
+  load-hits = (
+    x,
+    record {
+      bounds = r .bounds;
+      lawful = r .lawful;
+      owed = r .owed;
+      words = r .words;
+      orders = orders-after;
+      turns = r .turns;
+      matches = record {
+        serving = r .matches .serving;
+        requests = r .matches .requests;
+        mails = r .matches .mails;
+        pendings = r .matches .pendings;
+        weights = r .matches .weights;
+        left = r .matches .left;
+      };
+      inv = rw (
+        way-put m (r .bounds) b c w same (ranges .0) (ranges .1),
+        update₃-id (m .way) (home m b) c w same (way-again (m .way (home m b) c w) b h here),
+      ) (r .inv);
+      rooms = rooms-after same;
+    },
+    (b, k, rw (eq-eqb c c refl) refl, ap (λ ws. wordOf ws k) words-now ∙ r .words b k small),
+  )
     where
       same : Way
       same = wayIn (m .way (home m b) c w .state) b (m .way (home m b) c w .words)
 
   pub store-hits : (v : ℕ) → writable (m .way (home m b) c w .state) ≡ true → Keeps content m past (orders c (Store b k v))
       (finish m (home m b) c w (m .way (home m b) c w .state) (m .way (home m b) c w .words) (Store b k v))
-  store-hits v wr = (y, record {
-        bounds = r .bounds; lawful = r .lawful; owed = r .owed; orders = orders-after; turns = r .turns;
-        matches = record { serving = r .matches .serving; requests = r .matches .requests; mails = r .matches .mails; pendings = r .matches .pendings;
-          weights = r .matches .weights; left = r .matches .left };
-        inv = rw (way-put m (r .bounds) b c w (wayIn M b ws) (ranges .0) (ranges .1), ← block-latest (m .memory) (x .pending) (x .latest) b ws)
+  store-hits v wr = (
+    y,
+    record {
+      bounds = r .bounds;
+      lawful = r .lawful;
+      owed = r .owed;
+      orders = orders-after;
+      turns = r .turns;
+      matches = record {
+        serving = r .matches .serving;
+        requests = r .matches .requests;
+        mails = r .matches .mails;
+        pendings = r .matches .pendings;
+        weights = r .matches .weights;
+        left = r .matches .left;
+      };
+      inv = rw (way-put m (r .bounds) b c w (wayIn M b ws) (ranges .0) (ranges .1), ← block-latest (m .memory) (x .pending) (x .latest) b ws)
           (store-keeps (ghostOf m x) (r .inv) (home m b) c w b ws here wr);
-        rooms = rooms-after (wayIn M b ws);
-        words = λ i l q. rw (eq-eqb c c refl) (update-each (λ i z. wordOf z l ≡ cond (eqb b i && eqb k l) v (latest content past i l)) (x .latest) b ws
+      rooms = rooms-after (wayIn M b ws);
+      words = λ i l q. rw (eq-eqb c c refl) (update-each (λ i z. wordOf z l ≡ cond (eqb b i && eqb k l) v (latest content past i l))
+          (x .latest) b ws
           (word-replaced (m .way (home m b) c w .words) k v l small q
-            ∙ rw (eq-eqb b b refl) (ap (λ n. cond (eqb k l) v n) (ap (λ ws. wordOf ws l) words-now ∙ r .words b l q)))
-          (λ i n. r .words i l q ∙ rw (ne-eqb b i (λ e. n (sym e))) refl) i) },
-      (b, k, rw (eq-eqb c c refl) refl))
+          ∙ rw (eq-eqb b b refl) (ap (λ n. cond (eqb k l) v n) (ap (λ ws. wordOf ws l) words-now ∙ r .words b l q)))
+          (λ i n. r .words i l q ∙ rw (ne-eqb b i (λ e. n (sym e))) refl) i);
+    },
+    (b, k, rw (eq-eqb c c refl) refl),
+  )
     where
       ws : Words
       ws = withWord (m .way (home m b) c w .words) k v
+
       y : Added
       y = record { mailbox = x .mailbox; progress = x .progress; request = x .request; pending = x .pending; latest = update (x .latest) b ws }

@@ -21,7 +21,7 @@ use Rattle.machine.specs.declared.order.Order.the-variants.{Load, Store}
 use Rattle.machine.specs.Tables.{put}
 use Rattle.machine.specs.Holdings.{blockOf, wordAsked, accessOf, isWrite, hits}
 use Rattle.machine.specs.Machines.{Machine, home, withTurn}
-use Rattle.machine.specs.Outcomes.{Outcome, refuse}
+use Rattle.machine.specs.Outcomes.{refuse}
 use Rattle.machine.specs.Orders.{holdingWay, emptyWay, nextTurn, askFor, askForNew, miss}
 use Rattle.machine.specs.Runs.{Event, orders}
 use Rattle.machine.specs.Coherence.{Shows, waitingOrder}
@@ -74,27 +74,33 @@ only-stores-miss (Store b k v) st h n = (refl, n)
 
 only-at-way : (m : Machine) (x : Added) → Invariant (ghostOf m x) → (c : ℕ) (o : Order) (w : ℕ) → Misses m c o (Some w)
     → OnlyAt m x c o w × (w < m .geometry .ways)
-only-at-way m x inv c o w y = ((λ a hd bl. let i = same a hd bl in
+only-at-way m x inv c o w y = (
+  (λ a hd bl. let i = same a hd bl in
       (i, store .0, rw i (shown-read-only (x .mailbox t c .known w .state) (m .way t c w .state) (inv .agrees t c w .state) (y .0) (store .1)))),
-    inv .copiesHome t c w known .2)
+  inv .copiesHome t c w known .2,
+)
   where
     t : ℕ
     t = home m (blockOf o)
+
     store : (isWrite (accessOf o) ≡ true) × (writable (m .way t c w .state) ≡ false)
     store = only-stores-miss o (m .way t c w .state) (y .0) (y .2)
+
     known : held (x .mailbox t c .known w .state) ≡ true
     known = known-held (ghostOf m x) inv t c w (y .0)
+
     same : (a : ℕ) → held (x .mailbox t c .known a .state) ≡ true → x .mailbox t c .known a .block ≡ blockOf o → a ≡ w
     same a hd bl = ⊎-elim (λ e. e)
         (λ n. absurd (inv .copiesApart t c a c w (λ _ e. n e) hd known (bl ∙ sym (inv .agrees t c w .block ∙ y .1)) .0 refl)) (cases-eq a w)
 
 only-none : (m : Machine) (x : Added) → Invariant (ghostOf m x) → (c : ℕ) (o : Order) (w : ℕ) → Misses m c o None → OnlyAt m x c o w
 only-none m x inv c o w y a hd bl = absurd (false≢true (sym no ∙ and-from (held (m .way t c a .state)) (eqb (m .way t c a .block) (blockOf o))
-      (shown-held (x .mailbox t c .known a .state) (m .way t c a .state) (inv .agrees t c a .state) hd)
-      (eq-eqb (m .way t c a .block) (blockOf o) (sym (inv .agrees t c a .block) ∙ bl))))
+    (shown-held (x .mailbox t c .known a .state) (m .way t c a .state) (inv .agrees t c a .state) hd)
+    (eq-eqb (m .way t c a .block) (blockOf o) (sym (inv .agrees t c a .block) ∙ bl))))
   where
     t : ℕ
     t = home m (blockOf o)
+
     no : (held (m .way t c a .state) && eqb (m .way t c a .block) (blockOf o)) ≡ false
     no = lowest-none (λ w. held (m .way t c w .state) && eqb (m .way t c w .block) (blockOf o)) (m .geometry .ways) y a (inv .copiesHome t c a hd .2)
 
@@ -103,28 +109,50 @@ request-keeps : (content : ℕ → Words) (m : Machine) (past : List Event) (x :
     → wordAsked o < 2 → m .kept c ≡ None → length (m .requests) < 128
     → (c < m .geometry .caches) × (w < m .geometry .ways) × (blockOf o < m .geometry .blocks) → OnlyAt m x c o w
     → Keeps content m past (orders c o) (askFor m c o w)
-request-keeps content m past x r c o w small free room range at = (y, record {
-      bounds = r .bounds; lawful = r .lawful; owed = r .owed; words = r .words; turns = r .turns;
-      matches = record {
-        serving = r .matches .serving; mails = r .matches .mails; pendings = r .matches .pendings; weights = r .matches .weights; left = r .matches .left;
-        requests = update-each (λ a z. kept-by (λ q. eqb (q .cache) a) (m .requests ++ q ∷ []) ≡ requestSlot z) (x .request) c (Some q)
+request-keeps content m past x r c o w small free room range at = (
+  y,
+  record {
+    bounds = r .bounds;
+    lawful = r .lawful;
+    owed = r .owed;
+    words = r .words;
+    turns = r .turns;
+    matches = record {
+      serving = r .matches .serving;
+      mails = r .matches .mails;
+      pendings = r .matches .pendings;
+      weights = r .matches .weights;
+      left = r .matches .left;
+      requests = update-each (λ a z. kept-by (λ q. eqb (q .cache) a) (m .requests ++ q ∷ []) ≡ requestSlot z) (x .request) c (Some q)
           (kept-push-yes (λ q. eqb (q .cache) c) (m .requests) q (eq-eqb c c refl) ∙ rw none refl)
-          (λ a n. kept-push-no (λ q. eqb (q .cache) a) (m .requests) q (ne-eqb c a (λ z. n (sym z))) ∙ r .matches .requests a) };
-      inv = subst (λ f. Invariant (ghostIn (m .geometry) (m .entry) (m .way) f (m .memory) y)) (sym kept-is)
+          (λ a n. kept-push-no (λ q. eqb (q .cache) a) (m .requests) q (ne-eqb c a (λ z. n (sym z))) ∙ r .matches .requests a);
+    };
+    inv = subst (λ f. Invariant (ghostIn (m .geometry) (m .entry) (m .way) f (m .memory) y)) (sym kept-is)
         (rw (← waiter-update (m .kept) (x .request) c (Some o) (Some q)) (miss-keeps (ghostOf m x) (r .inv) c w o free range at));
-      rooms = record { commands = r .rooms .commands; responses = r .rooms .responses; memoryCommands = r .rooms .memoryCommands;
-        requests = let h = push-length (m .requests) q in omega arith };
-      orders = subst (λ f. (a : ℕ) → OrderAfter a (f a)) (sym kept-is) (update-each OrderAfter (m .kept) c (Some o)
-        (rw (eq-eqb c c refl) refl, λ p e. let z : o ≡ p = cc in rw (← z) small) (λ a n. rw (ne-eqb c a (λ z. n (sym z))) (r .orders a))) }, tt)
+    rooms = record {
+      commands = r .rooms .commands;
+      responses = r .rooms .responses;
+      memoryCommands = r .rooms .memoryCommands;
+      requests = let h = push-length (m .requests) q in omega arith;
+    };
+    orders = subst (λ f. (a : ℕ) → OrderAfter a (f a)) (sym kept-is) (update-each OrderAfter (m .kept) c (Some o)
+        (rw (eq-eqb c c refl) refl, λ p e. let z : o ≡ p = cc in rw (← z) small) (λ a n. rw (ne-eqb c a (λ z. n (sym z))) (r .orders a)));
+  },
+  tt,
+)
   where
     q : Request
     q = record { access = accessOf o; cache = c; block = blockOf o; way = w }
+
     y : Added
     y = record { mailbox = x .mailbox; progress = x .progress; request = update (x .request) c (Some q); pending = x .pending; latest = x .latest }
+
     OrderAfter : ℕ → Option Order → Type 0
     OrderAfter a z = (cond (eqb c a) (Some o) (waitingOrder a past) ≡ z) × ((p : Order) → z ≡ Some p → wordAsked p < 2)
+
     kept-is : put 8 (m .kept) c (Some o) ≡ update (m .kept) c (Some o)
     kept-is = cache-put m (r .bounds) (m .kept) c (Some o) (range .0)
+
     none : kept-by (λ q. eqb (q .cache) c) (m .requests) ≡ []
     none = r .matches .requests c ∙ rw (r .inv .asks c free) refl
 
@@ -139,35 +167,55 @@ next-below t n l = go (ltb (suc t) n) refl
 turn-reached : (content : ℕ → Words) (m : Machine) (past : List Event) (x : Added) → Reached content m past x → (b c v : ℕ) → c < m .geometry .caches
     → v < m .geometry .ways → Reached content (withTurn m (home m b) c v) past x
 turn-reached content m past x r b c v p l = record {
-    bounds = r .bounds; lawful = r .lawful; inv = r .inv; owed = r .owed; words = r .words; orders = r .orders;
-    matches = record { serving = r .matches .serving; requests = r .matches .requests; mails = r .matches .mails; pendings = r .matches .pendings;
-      weights = r .matches .weights; left = r .matches .left };
-    rooms = record { requests = r .rooms .requests; commands = r .rooms .commands; responses = r .rooms .responses;
-      memoryCommands = r .rooms .memoryCommands };
-    turns = subst (λ f. (s d : ℕ) → f s d < m .geometry .ways)
+  bounds = r .bounds;
+  lawful = r .lawful;
+  inv = r .inv;
+  owed = r .owed;
+  words = r .words;
+  orders = r .orders;
+  matches = record {
+    serving = r .matches .serving;
+    requests = r .matches .requests;
+    mails = r .matches .mails;
+    pendings = r .matches .pendings;
+    weights = r .matches .weights;
+    left = r .matches .left;
+  };
+  rooms = record {
+    requests = r .rooms .requests;
+    commands = r .rooms .commands;
+    responses = r .rooms .responses;
+    memoryCommands = r .rooms .memoryCommands;
+  };
+  turns = subst (λ f. (s d : ℕ) → f s d < m .geometry .ways)
       (sym (put₂-is 16 8 (m .turn) (home m b) c v (set-below (m .geometry) (r .bounds) b) (cache-below (m .geometry) (r .bounds) c p)))
-      (update₂-each (λ s c z. z < m .geometry .ways) (m .turn) (home m b) c v l (λ s c _. r .turns s c)) }
+      (update₂-each (λ s c z. z < m .geometry .ways) (m .turn) (home m b) c v l (λ s c _. r .turns s c));
+}
 
 module _ (content : ℕ → Words) (m : Machine) (past : List Event) (x : Added) (r : Reached content m past x) (c : ℕ) (o : Order)
     (small : wordAsked o < 2) (free : m .kept c ≡ None) (cache : c < m .geometry .caches) (block : blockOf o < m .geometry .blocks) where
   new-way : length (m .requests) < 128 → Misses m c o None → (v : Option ℕ) → emptyWay m (home m (blockOf o)) c ≡ v
       → Keeps content m past (orders c o) (elim v [
         | Some w ↦ askFor m c o w
-        | None ↦ askFor (withTurn m (home m (blockOf o)) c (nextTurn m (home m (blockOf o)) c)) c o (m .turn (home m (blockOf o)) c) ])
+        | None ↦ askFor (withTurn m (home m (blockOf o)) c (nextTurn m (home m (blockOf o)) c)) c o (m .turn (home m (blockOf o)) c)
+      ])
   new-way room y (Some w) e = request-keeps content m past x r c o w small free room
       (cache, lowest-below (λ w. not (held (m .way (home m (blockOf o)) c w .state))) (m .geometry .ways) w e, block) (only-none m x (r .inv) c o w y)
   new-way room y None e =
       let s : ℕ = home m (blockOf o) in
-      let z = turn-reached content m past x r (blockOf o) c (nextTurn m s c) cache (next-below (m .turn s c) (m .geometry .ways) (r .bounds .someWays)) in
+      let z = turn-reached content m past x r (blockOf o) c (nextTurn m s c) cache
+      (next-below (m .turn s c) (m .geometry .ways) (r .bounds .someWays)) in
       request-keeps content (withTurn m s c (nextTurn m s c)) past x z c o (m .turn s c) small free room (cache, r .turns s c, block)
-        (only-none m x (r .inv) c o (m .turn s c) y)
+      (only-none m x (r .inv) c o (m .turn s c) y)
 
   asks-for : length (m .requests) < 128 → (at : Option ℕ) → Misses m c o at
       → Keeps content m past (orders c o) (elim at [ Some w ↦ askFor m c o w | None ↦ askForNew m c o (home m (blockOf o)) ])
-  asks-for room (Some w) y = let a = only-at-way m x (r .inv) c o w y in request-keeps content m past x r c o w small free room (cache, a .1, block) (a .0)
+  asks-for room (Some w) y = let a = only-at-way m x (r .inv) c o w y in
+      request-keeps content m past x r c o w small free room (cache, a .1, block) (a .0)
   asks-for room None y = new-way room y (emptyWay m (home m (blockOf o)) c) refl
 
-  pub miss-lifts : (at : Option ℕ) → Misses m c o at → Keeps content m past (orders c o) (refuse m 14) → Keeps content m past (orders c o) (miss m c o at)
+  pub miss-lifts : (at : Option ℕ) → Misses m c o at → Keeps content m past (orders c o) (refuse m 14)
+      → Keeps content m past (orders c o) (miss m c o at)
   miss-lifts at y full = go (leb 128 (length (m .requests))) refl
     where
       go : (t : Bool) → leb 128 (length (m .requests)) ≡ t → Keeps content m past (orders c o) (cond t (refuse m 14)

@@ -60,9 +60,13 @@ asked-is j f z i ok c = go (eqb c (j .requestor)) refl z i ok
         at false q = refl
 
 abbrev pub afterRoundOne : Added → ℕ → Job → Added
-afterRoundOne x s j = record { mailbox = update (x .mailbox) s (λ c. askedMailbox j c (x .mailbox s c));
-    progress = update (x .progress) s (Some (atStage Asked j)); request = x .request;
-    pending = update (x .pending) (j .block) (readFor j (j .source)); latest = x .latest }
+afterRoundOne x s j = record {
+  mailbox = update (x .mailbox) s (λ c. askedMailbox j c (x .mailbox s c));
+  progress = update (x .progress) s (Some (atStage Asked j));
+  request = x .request;
+  pending = update (x .pending) (j .block) (readFor j (j .source));
+  latest = x .latest;
+}
 
 -- the set is at Clearing, its round one has not been left, and no cache has mail
 module _ (m : Machine) (x : Added) (j : Job) (sh : AlmostMatches m x (home m (j .block))) (inv : Invariant (ghostOf m x))
@@ -70,8 +74,10 @@ module _ (m : Machine) (x : Added) (j : Job) (sh : AlmostMatches m x (home m (j 
     (quiet : (c : ℕ) → x .mailbox (home m (j .block)) c .mail ≡ Nothing) where
   abbrev g : Sizes
   g = m .geometry
+
   abbrev s : ℕ
   s = home m (j .block)
+
   abbrev now : Option Transaction
   now = Some (record { job = j; round = Two })
 
@@ -119,59 +125,66 @@ module _ (m : Machine) (x : Added) (j : Job) (sh : AlmostMatches m x (home m (j 
 
   matches-from : (z : Source) → j .source ≡ z → Matches (setServing (ask m j z) s now) (afterRoundOne x s j)
   matches-from Memory i = record {
-      serving = same; requests = sh .requests;
-      mails = update-each (λ t f. (c : ℕ)
-          → map To (kept-by (toMailbox g t c) (m .commands)) ++ map From (kept-by (fromMailbox g t c) (m .responses))
-          ≡ mailSlot (f c .mail)) (x .mailbox) s (λ c. askedMailbox j c (x .mailbox s c))
-          (λ c. rw (mail-is Memory i c) (no-mail c)) (λ t _. sh .mails t);
-      pendings = update-each
-          (λ b z. map pendingOf (kept-by (atBlock b) (m .memoryCommands ++ k ∷ [])) ++ map pendingIn (kept-by (writesBack b) (m .responses))
-              ≡ pendingSlot z)
-          (x .pending) (j .block) (readFor j (j .source))
-          (let z = both-none pendingOf pendingIn (kept-by (atBlock (j .block)) (m .memoryCommands))
-              (kept-by (writesBack (j .block)) (m .responses)) none-pending in
-            rw (kept-push-yes (atBlock (j .block)) (m .memoryCommands) k (eq-eqb (j .block) (j .block) refl), z .0, z .1, i) refl)
-          (λ b e. rw (kept-push-no (atBlock b) (m .memoryCommands) k (ne-eqb (j .block) b (λ q. e (sym q)))) (sh .pendings b));
-      weights = update-both (λ t a z. a ≡ weigh (commandWeight g t) (m .commands)
-            + (weigh (responseWeight g t) (m .responses) + (weigh (memoryWeight g t) (m .memoryCommands ++ k ∷ []) + ackOwed z)))
-          (m .count) (m .serving) s (m .count s + 1) now
-          (let u = rw (eq-eqb s s refl) at (weigh-push (memoryWeight g s) (m .memoryCommands) k) in let v = sh .weights s in omega arith)
-          (λ t e. let u = rw (ne-eqb s t (λ q. e (sym q))) at (weigh-push (memoryWeight g t) (m .memoryCommands) k) in
-            let v = sh .weights t in omega arith);
-      left = update-each (λ t z. Left z (weigh (commandOne g t) (m .commands) + weigh (responseWeight g t) (m .responses)))
-          (m .serving) s now tt (λ t e. sh .left t e) }
+    serving = same;
+    requests = sh .requests;
+    mails = update-each (λ t f. (c : ℕ)
+        → map To (kept-by (toMailbox g t c) (m .commands)) ++ map From (kept-by (fromMailbox g t c) (m .responses))
+        ≡ mailSlot (f c .mail)) (x .mailbox) s (λ c. askedMailbox j c (x .mailbox s c))
+        (λ c. rw (mail-is Memory i c) (no-mail c)) (λ t _. sh .mails t);
+    pendings = update-each
+        (λ b z. map pendingOf (kept-by (atBlock b) (m .memoryCommands ++ k ∷ [])) ++ map pendingIn (kept-by (writesBack b) (m .responses))
+        ≡ pendingSlot z)
+        (x .pending) (j .block) (readFor j (j .source))
+        (let z = both-none pendingOf pendingIn (kept-by (atBlock (j .block)) (m .memoryCommands))
+        (kept-by (writesBack (j .block)) (m .responses)) none-pending in
+        rw (kept-push-yes (atBlock (j .block)) (m .memoryCommands) k (eq-eqb (j .block) (j .block) refl), z .0, z .1, i) refl)
+        (λ b e. rw (kept-push-no (atBlock b) (m .memoryCommands) k (ne-eqb (j .block) b (λ q. e (sym q)))) (sh .pendings b));
+    weights = update-both (λ t a z. a ≡ weigh (commandWeight g t) (m .commands)
+        + (weigh (responseWeight g t) (m .responses) + (weigh (memoryWeight g t) (m .memoryCommands ++ k ∷ []) + ackOwed z)))
+        (m .count) (m .serving) s (m .count s + 1) now
+        (let u = rw (eq-eqb s s refl) at (weigh-push (memoryWeight g s) (m .memoryCommands) k) in let v = sh .weights s in omega arith)
+        (λ t e. let u = rw (ne-eqb s t (λ q. e (sym q))) at (weigh-push (memoryWeight g t) (m .memoryCommands) k) in
+        let v = sh .weights t in omega arith);
+    left = update-each (λ t z. Left z (weigh (commandOne g t) (m .commands) + weigh (responseWeight g t) (m .responses)))
+        (m .serving) s now tt (λ t e. sh .left t e);
+  }
     where
       k : MemoryCommand
       k = Read (j .block) (j .requestor) (j .way) (j .next)
   matches-from OwnCopy i = record {
-      serving = same; requests = sh .requests;
-      mails = sent-mails k refl (λ c. mail-is OwnCopy i c);
-      pendings = same-pending (rw i refl);
-      weights = update-each (λ t z. m .count t ≡ weigh (commandWeight g t) (m .commands ++ k ∷ [])
-            + (weigh (responseWeight g t) (m .responses) + (weigh (memoryWeight g t) (m .memoryCommands) + ackOwed z)))
-          (m .serving) s now
-          (let u = rw (eq-eqb s s refl) at (weigh-push (commandWeight g s) (m .commands) k) in let v = sh .weights s in omega arith)
-          (λ t e. let u = rw (ne-eqb s t (λ q. e (sym q))) at (weigh-push (commandWeight g t) (m .commands) k) in
-            let v = sh .weights t in omega arith);
-      left = sent-left k refl }
+    serving = same;
+    requests = sh .requests;
+    mails = sent-mails k refl (λ c. mail-is OwnCopy i c);
+    pendings = same-pending (rw i refl);
+    weights = update-each (λ t z. m .count t ≡ weigh (commandWeight g t) (m .commands ++ k ∷ [])
+        + (weigh (responseWeight g t) (m .responses) + (weigh (memoryWeight g t) (m .memoryCommands) + ackOwed z)))
+        (m .serving) s now
+        (let u = rw (eq-eqb s s refl) at (weigh-push (commandWeight g s) (m .commands) k) in let v = sh .weights s in omega arith)
+        (λ t e. let u = rw (ne-eqb s t (λ q. e (sym q))) at (weigh-push (commandWeight g t) (m .commands) k) in
+        let v = sh .weights t in omega arith);
+    left = sent-left k refl;
+  }
     where
       k : Command
       k = SetStateWakeup (j .requestor) (j .block) (j .way)
   matches-from (Owner o p shown keeps writeback) i = record {
-      serving = same; requests = sh .requests;
-      mails = sent-mails k refl (λ c. mail-is (Owner o p shown keeps writeback) i c);
-      pendings = same-pending (rw i refl);
-      weights = update-both (λ t a z. a ≡ weigh (commandWeight g t) (m .commands ++ k ∷ [])
-            + (weigh (responseWeight g t) (m .responses) + (weigh (memoryWeight g t) (m .memoryCommands) + ackOwed z)))
-          (m .count) (m .serving) s (m .count s + cond writeback 1 0) now
-          (let u = rw (eq-eqb s s refl) at (weigh-push (commandWeight g s) (m .commands) k) in
-            let v = sh .weights s in let w = heavier writeback in omega arith)
-          (λ t e. let u = rw (ne-eqb s t (λ q. e (sym q))) at (weigh-push (commandWeight g t) (m .commands) k) in
-            let v = sh .weights t in omega arith);
-      left = sent-left k refl }
+    serving = same;
+    requests = sh .requests;
+    mails = sent-mails k refl (λ c. mail-is (Owner o p shown keeps writeback) i c);
+    pendings = same-pending (rw i refl);
+    weights = update-both (λ t a z. a ≡ weigh (commandWeight g t) (m .commands ++ k ∷ [])
+        + (weigh (responseWeight g t) (m .responses) + (weigh (memoryWeight g t) (m .memoryCommands) + ackOwed z)))
+        (m .count) (m .serving) s (m .count s + cond writeback 1 0) now
+        (let u = rw (eq-eqb s s refl) at (weigh-push (commandWeight g s) (m .commands) k) in
+        let v = sh .weights s in let w = heavier writeback in omega arith)
+        (λ t e. let u = rw (ne-eqb s t (λ q. e (sym q))) at (weigh-push (commandWeight g t) (m .commands) k) in
+        let v = sh .weights t in omega arith);
+    left = sent-left k refl;
+  }
     where
       k : Command
       k = Transfer o (j .block) p (j .requestor) (j .way) keeps (j .next) writeback
+
       heavier : (t : Bool) → cond {A = ℕ} t 2 1 ≡ suc (cond {A = ℕ} t 1 0)
       heavier true = refl
       heavier false = refl
@@ -180,11 +193,18 @@ module _ (m : Machine) (x : Added) (j : Job) (sh : AlmostMatches m x (home m (j 
   invariant-from z = go z
     where
       all : Invariant (ghostOf m (afterRoundOne x s j))
-      all = subst (λ (blocks : ℕ → BlockAtMemory). Invariant (record { geometry = m .geometry; entry = m .entry; way = m .way;
-              mailbox = afterRoundOne x s j .mailbox; progress = afterRoundOne x s j .progress;
-              waiter = λ c. record { kept = m .kept c; request = x .request c }; atMemory = blocks }))
+      all = subst (λ (blocks : ℕ → BlockAtMemory). Invariant (record {
+        geometry = m .geometry;
+        entry = m .entry;
+        way = m .way;
+        mailbox = afterRoundOne x s j .mailbox;
+        progress = afterRoundOne x s j .progress;
+        waiter = λ c. record { kept = m .kept c; request = x .request c };
+        atMemory = blocks;
+      }))
           (block-pending (m .memory) (x .pending) (x .latest) (j .block) (readFor j (j .source)))
-              (round-two-keeps (ghostOf m x) inv s j clearing quiet)
+          (round-two-keeps (ghostOf m x) inv s j clearing quiet)
+
       go : (z : Source) → Invariant (ghostOf (setServing (ask m j z) s now) (afterRoundOne x s j))
       go Memory = all
       go OwnCopy = all
@@ -201,12 +221,21 @@ pub record AskFrame (m : Machine) (j : Job) (after : Machine) : Type 0 where
   pub frame : Frame m after
 
 pub ask-frame : (m : Machine) (j : Job) (z : Source) → AskFrame m j (ask m j z)
-ask-frame m j Memory = record { counts = λ t n. update-there (m .count) (home m (j .block)) (m .count (home m (j .block)) + 1) t n;
-    more = rw (eq-eqb (home m (j .block)) (home m (j .block)) refl) (omega arith); serving = refl;
-    frame = record { kept = refl; geometry = refl; rows = refl; turn = refl } }
-ask-frame m j OwnCopy = record { counts = λ t n. refl; more = omega arith; serving = refl;
-    frame = record { kept = refl; geometry = refl; rows = refl; turn = refl } }
+ask-frame m j Memory = record {
+  counts = λ t n. update-there (m .count) (home m (j .block)) (m .count (home m (j .block)) + 1) t n;
+  more = rw (eq-eqb (home m (j .block)) (home m (j .block)) refl) (omega arith);
+  serving = refl;
+  frame = record { kept = refl; geometry = refl; rows = refl; turn = refl };
+}
+ask-frame m j OwnCopy = record {
+  counts = λ t n. refl;
+  more = omega arith;
+  serving = refl;
+  frame = record { kept = refl; geometry = refl; rows = refl; turn = refl };
+}
 ask-frame m j (Owner o p shown keeps writeback) = record {
-    counts = λ t n. update-there (m .count) (home m (j .block)) (m .count (home m (j .block)) + cond writeback 1 0) t n;
-    more = rw (eq-eqb (home m (j .block)) (home m (j .block)) refl) (omega arith); serving = refl;
-    frame = record { kept = refl; geometry = refl; rows = refl; turn = refl } }
+  counts = λ t n. update-there (m .count) (home m (j .block)) (m .count (home m (j .block)) + cond writeback 1 0) t n;
+  more = rw (eq-eqb (home m (j .block)) (home m (j .block)) refl) (omega arith);
+  serving = refl;
+  frame = record { kept = refl; geometry = refl; rows = refl; turn = refl };
+}

@@ -87,28 +87,36 @@ pub deliver-wakeup : (content : ℕ → Words) (m : Machine) (past : List Event)
     → Keeps content m past (delivers 1 i) (obey (withCommands m (without (m .commands) i)) (SetStateWakeup c b w))
 deliver-wakeup content m past x r i c b w e free =
     fill-lifts content m past x r i k e free (λ _. refl) w (o .job) Asked (λ _ z. z) (o .progress) ce (o .block) (o .way)
-      (rw (eq-eqb c (o .job .requestor) ce) at (rw (o .progress) at (r .inv .waits s c)))
-      M (m .way s c w .words) now (ok .writes) (λ f. absurd (false≢true (sym f ∙ writes)))
-      (λ _. wakeup-keeps (ghostOf m x) (r .inv) s (o .job) (m .way s c w .words) (o .progress) (o .source))
-      (λ us _. wakeup-keeps (ghostOf m x) (r .inv) s (o .job) us (o .progress) (o .source))
+    (rw (eq-eqb c (o .job .requestor) ce) at (rw (o .progress) at (r .inv .waits s c)))
+    M (m .way s c w .words) now (ok .writes) (λ f. absurd (false≢true (sym f ∙ writes)))
+    (λ _. wakeup-keeps (ghostOf m x) (r .inv) s (o .job) (m .way s c w .words) (o .progress) (o .source))
+    (λ us _. wakeup-keeps (ghostOf m x) (r .inv) s (o .job) us (o .progress) (o .source))
   where
     s : ℕ
     s = home m b
+
     k : Command
     k = SetStateWakeup c b w
+
     o : WakeupFacts (x .progress s) c (x .mailbox s c) b w
     o = wakeup-facts (x .progress s) c (m .entry s c) (x .mailbox s c) c b w (took-command m x (r .matches) i k e s c refl refl .0)
         (r .inv .mailboxes s c)
+
     ce : c ≡ o .job .requestor
     ce = requestor-is (o .job) c (o .isRequestor)
+
     ok : GoodJob (m .geometry) s (m .entry s) (o .job)
     ok = rw (o .progress) at (r .inv .jobs s)
+
     upgrade : o .job .upgrade ≡ true
     upgrade = rw (o .source) at (ok .source)
+
     writes : isWrite (o .job .access) ≡ true
     writes = ok .upgrades upgrade
+
     copy : (x .mailbox s c .known w .block ≡ o .job .block) × (readOnly (x .mailbox s c .known w .state) ≡ true)
     copy = rw upgrade at (o .before)
+
     now : m .way s c w .words ≡ x .latest b
     now = r .inv .copies s c w (read-only-shown (x .mailbox s c .known w .state) (m .way s c w .state) (r .inv .agrees s c w .state) (copy .1))
         ∙ ap (x .latest) (sym (r .inv .agrees s c w .block) ∙ copy .0 ∙ sym (o .block))

@@ -31,5 +31,13 @@ pub record Frame (m after : Machine) : Type 0 where
 -- one step after another
 pub lifted-after : (m : Machine) (x : Added) (n : Machine) (y : Added) (o : Machine) → y .latest ≡ x .latest → Frame m n → Lifted n y o → Lifted m x o
 lifted-after m x n y o e f l = record {
-  added = l .added; matches = l .matches; invariant = l .invariant; owed = l .owed; latest = l .latest ∙ e; kept = l .kept ∙ f .kept;
-  geometry = l .geometry ∙ f .geometry; rows = l .rows ∙ f .rows; turn = l .turn ∙ f .turn }
+  added = l .added;
+  matches = l .matches;
+  invariant = l .invariant;
+  owed = l .owed;
+  latest = l .latest ∙ e;
+  kept = l .kept ∙ f .kept;
+  geometry = l .geometry ∙ f .geometry;
+  rows = l .rows ∙ f .rows;
+  turn = l .turn ∙ f .turn;
+}

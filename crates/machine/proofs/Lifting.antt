@@ -52,9 +52,14 @@ set-put m bounds f b v = put-is 16 f (home m b) v (set-below (m .geometry) bound
 -- the ghost state of a machine, by the machine's tables
 abbrev pub ghostIn : Sizes → (ℕ → ℕ → ℕ → Entry) → (ℕ → ℕ → ℕ → Way) → (ℕ → Option Order) → (ℕ → Words) → Added → Ghost
 ghostIn n entries ways kept memory x = record {
-  geometry = n; entry = entries; way = ways; mailbox = x .mailbox; progress = x .progress;
+  geometry = n;
+  entry = entries;
+  way = ways;
+  mailbox = x .mailbox;
+  progress = x .progress;
   waiter = λ c. record { kept = kept c; request = x .request c };
-  atMemory = λ b. record { memory = memory b; pending = x .pending b; latest = x .latest b } }
+  atMemory = λ b. record { memory = memory b; pending = x .pending b; latest = x .latest b };
+}
 
 -- ---- tables
 
@@ -80,21 +85,22 @@ blockOfParts me pe la i = record { memory = me i; pending = pe i; latest = la i 
 
 pub block-update : (me : ℕ → Words) (pe : ℕ → Pending) (la : ℕ → Words) (b : ℕ) (p : Pending) (v : Words)
     → update (λ (i : ℕ). (blockOfParts me pe la i)) b (record { memory = me b; pending = p; latest = v })
-      ≡ (λ (i : ℕ). blockOfParts me (update pe b p) (update la b v) i)
-block-update me pe la b p v = fun-ext (update-each (λ i z. z ≡ blockOfParts me (update pe b p) (update la b v) i) (λ (i : ℕ). (blockOfParts me pe la i)) b
+    ≡ (λ (i : ℕ). blockOfParts me (update pe b p) (update la b v) i)
+block-update me pe la b p v = fun-ext (update-each (λ i z. z ≡ blockOfParts me (update pe b p) (update la b v) i)
+    (λ (i : ℕ). (blockOfParts me pe la i)) b
     (record { memory = me b; pending = p; latest = v })
     (λ t. record { memory = me b; pending = sym (update-here pe b p) t; latest = sym (update-here la b v) t })
     (λ i n t. record { memory = me i; pending = sym (update-there pe b p i n) t; latest = sym (update-there la b v i n) t }))
 
 pub block-pending : (me : ℕ → Words) (pe : ℕ → Pending) (la : ℕ → Words) (b : ℕ) (p : Pending)
     → update (λ (i : ℕ). (blockOfParts me pe la i)) b (record { memory = me b; pending = p; latest = la b })
-      ≡ (λ (i : ℕ). blockOfParts me (update pe b p) la i)
+    ≡ (λ (i : ℕ). blockOfParts me (update pe b p) la i)
 block-pending me pe la b p = block-update me pe la b p (la b)
     ∙ ap (λ (z : ℕ → Words). (λ (i : ℕ). blockOfParts me (update pe b p) z i)) (update-id la b (la b) refl)
 
 pub block-latest : (me : ℕ → Words) (pe : ℕ → Pending) (la : ℕ → Words) (b : ℕ) (v : Words)
     → update (λ (i : ℕ). (blockOfParts me pe la i)) b (record { memory = me b; pending = pe b; latest = v })
-      ≡ (λ (i : ℕ). blockOfParts me pe (update la b v) i)
+    ≡ (λ (i : ℕ). blockOfParts me pe (update la b v) i)
 block-latest me pe la b v = block-update me pe la b (pe b) v
     ∙ ap (λ (z : ℕ → Pending). (λ (i : ℕ). blockOfParts me z (update la b v) i)) (update-id pe b (pe b) refl)
 
@@ -104,7 +110,7 @@ waiterOfParts ke re i = record { kept = ke i; request = re i }
 
 pub waiter-update : (ke : ℕ → Option Order) (re : ℕ → Option Request) (c : ℕ) (o : Option Order) (q : Option Request)
     → update (λ (i : ℕ). (waiterOfParts ke re i)) c (record { kept = o; request = q })
-      ≡ (λ (i : ℕ). waiterOfParts (update ke c o) (update re c q) i)
+    ≡ (λ (i : ℕ). waiterOfParts (update ke c o) (update re c q) i)
 waiter-update ke re c o q = fun-ext (update-each (λ i z. z ≡ waiterOfParts (update ke c o) (update re c q) i) (λ (i : ℕ). (waiterOfParts ke re i)) c
     (record { kept = o; request = q })
     (λ t. record { kept = sym (update-here ke c o) t; request = sym (update-here re c q) t })
@@ -131,28 +137,40 @@ other-key a b s c n = grind (arith, tells)
 module _ (m : Machine) (x : Added) (ok : Matches m x) (i : ℕ) (k : Command) (e : nth (m .commands) i ≡ Some k) (r : Response)
     (same-block : responseBlock r ≡ commandBlock k) (same-cache : responseCache r ≡ commandCache k) where
   pub answered-mails : (z : Mailbox) → z .mail ≡ From r → (t d : ℕ)
-      → map To (kept-by (toMailbox (m .geometry) t d) (without (m .commands) i)) ++ map From (kept-by (fromMailbox (m .geometry) t d) (m .responses ++ r ∷ []))
-        ≡ mailSlot (update₂ (x .mailbox) (home m (commandBlock k)) (commandCache k) z t d .mail)
+      → map To (kept-by (toMailbox (m .geometry) t d) (without (m .commands) i))
+      ++ map From (kept-by (fromMailbox (m .geometry) t d) (m .responses ++ r ∷ []))
+      ≡ mailSlot (update₂ (x .mailbox) (home m (commandBlock k)) (commandCache k) z t d .mail)
   answered-mails z zm = update₂-each (λ t d z. map To (kept-by (toMailbox n t d) (without (m .commands) i))
-        ++ map From (kept-by (fromMailbox n t d) (m .responses ++ r ∷ [])) ≡ mailSlot (z .mail)) (x .mailbox) s c z
-      (rw (there .1, kept-push-yes (fromMailbox n s c) (m .responses) r
-        (rw (same-block, same-cache) (and-from (eqb s s) (eqb c c) (eq-eqb s s refl) (eq-eqb c c refl))), there .2, zm) refl)
-      (λ t d a. rw (taken-other (toMailbox n t d) (m .commands) i k e (other-key s c t d a),
-        kept-push-no (fromMailbox n t d) (m .responses) r (rw (same-block, same-cache) (other-key s c t d a))) (ok .mails t d))
+      ++ map From (kept-by (fromMailbox n t d) (m .responses ++ r ∷ [])) ≡ mailSlot (z .mail)) (x .mailbox) s c z
+      (rw (
+        there .1,
+        kept-push-yes (fromMailbox n s c) (m .responses) r
+            (rw (same-block, same-cache) (and-from (eqb s s) (eqb c c) (eq-eqb s s refl) (eq-eqb c c refl))),
+        there .2,
+        zm,
+      ) refl)
+      (λ t d a. rw (
+        taken-other (toMailbox n t d) (m .commands) i k e (other-key s c t d a),
+        kept-push-no (fromMailbox n t d) (m .responses) r (rw (same-block, same-cache) (other-key s c t d a)),
+      ) (ok .mails t d))
     where
       n : Sizes
       n = m .geometry
+
       s : ℕ
       s = home m (commandBlock k)
+
       c : ℕ
       c = commandCache k
+
       there : (x .mailbox s c .mail ≡ To k) × (kept-by (toMailbox n s c) (without (m .commands) i) ≡ [])
           × (kept-by (fromMailbox n s c) (m .responses) ≡ [])
       there = took-command m x ok i k e s c refl refl
 
   pub answered-weights : (t : ℕ) → commandWeight (m .geometry) t k ≡ commandOne (m .geometry) t k
-      → m .count t ≡ weigh (commandWeight (m .geometry) t) (without (m .commands) i) + (weigh (responseWeight (m .geometry) t) (m .responses ++ r ∷ [])
-        + (weigh (memoryWeight (m .geometry) t) (m .memoryCommands) + ackOwed (m .serving t)))
+      → m .count t ≡ weigh (commandWeight (m .geometry) t) (without (m .commands) i)
+      + (weigh (responseWeight (m .geometry) t) (m .responses ++ r ∷ [])
+      + (weigh (memoryWeight (m .geometry) t) (m .memoryCommands) + ackOwed (m .serving t)))
   answered-weights t one =
       let h = ok .weights t in
       let u = weigh-taken (commandWeight (m .geometry) t) (m .commands) i k e in
@@ -160,13 +178,15 @@ module _ (m : Machine) (x : Added) (ok : Matches m x) (i : ℕ) (k : Command) (e
       let q : responseWeight (m .geometry) t r ≡ commandOne (m .geometry) t k = rw same-block refl in omega arith
 
   pub answered-left : (t : ℕ)
-      → Left (m .serving t) (weigh (commandOne (m .geometry) t) (without (m .commands) i) + weigh (responseWeight (m .geometry) t) (m .responses ++ r ∷ []))
+      → Left (m .serving t) (weigh (commandOne (m .geometry) t) (without (m .commands) i)
+      + weigh (responseWeight (m .geometry) t) (m .responses ++ r ∷ []))
   answered-left t =
       let u = weigh-taken (commandOne (m .geometry) t) (m .commands) i k e in
       let v = weigh-push (responseWeight (m .geometry) t) (m .responses) r in
       let w : responseWeight (m .geometry) t r ≡ commandOne (m .geometry) t k = rw same-block refl in
       let q : weigh (commandOne (m .geometry) t) (m .commands) + weigh (responseWeight (m .geometry) t) (m .responses)
-            ≡ weigh (commandOne (m .geometry) t) (without (m .commands) i) + weigh (responseWeight (m .geometry) t) (m .responses ++ r ∷ []) = omega arith in
+      ≡ weigh (commandOne (m .geometry) t) (without (m .commands) i)
+      + weigh (responseWeight (m .geometry) t) (m .responses ++ r ∷ []) = omega arith in
       subst (Left (m .serving t)) q (ok .left t)
 
 -- a command is sent to a mailbox with no mail
@@ -174,7 +194,7 @@ pub sent-mails : (n : Sizes) (cs : List Command) (rs : List Response) (f : ℕ �
     → ((t d : ℕ) → map To (kept-by (toMailbox n t d) cs) ++ map From (kept-by (fromMailbox n t d) rs) ≡ mailSlot (f t d .mail))
     → (k : Command) → f (setOf n (commandBlock k)) (commandCache k) .mail ≡ Nothing → (z : Mailbox) → z .mail ≡ To k → (t d : ℕ)
     → map To (kept-by (toMailbox n t d) (cs ++ k ∷ [])) ++ map From (kept-by (fromMailbox n t d) rs)
-      ≡ mailSlot (update₂ f (setOf n (commandBlock k)) (commandCache k) z t d .mail)
+    ≡ mailSlot (update₂ f (setOf n (commandBlock k)) (commandCache k) z t d .mail)
 sent-mails n cs rs f mails k quiet z zm = update₂-each
     (λ t d z. map To (kept-by (toMailbox n t d) (cs ++ k ∷ [])) ++ map From (kept-by (fromMailbox n t d) rs) ≡ mailSlot (z .mail)) f s c z
     (rw (kept-push-yes (toMailbox n s c) cs k (and-from (eqb s s) (eqb c c) (eq-eqb s s refl) (eq-eqb c c refl)), none .0, none .1, zm) refl)
@@ -182,26 +202,32 @@ sent-mails n cs rs f mails k quiet z zm = update₂-each
   where
     s : ℕ
     s = setOf n (commandBlock k)
+
     c : ℕ
     c = commandCache k
+
     none : (kept-by (toMailbox n s c) cs ≡ []) × (kept-by (fromMailbox n s c) rs ≡ [])
     none = both-none To From (kept-by (toMailbox n s c) cs) (kept-by (fromMailbox n s c) rs) (rw quiet at (mails s c))
 
 -- a command is taken and its mailbox has no mail then
 pub taken-mails : (m : Machine) (x : Added) → Matches m x → (i : ℕ) (k : Command) → nth (m .commands) i ≡ Some k → (z : Mailbox) → z .mail ≡ Nothing
-    → (t d : ℕ) → map To (kept-by (toMailbox (m .geometry) t d) (without (m .commands) i)) ++ map From (kept-by (fromMailbox (m .geometry) t d) (m .responses))
-      ≡ mailSlot (update₂ (x .mailbox) (home m (commandBlock k)) (commandCache k) z t d .mail)
+    → (t d : ℕ) → map To (kept-by (toMailbox (m .geometry) t d) (without (m .commands) i))
+    ++ map From (kept-by (fromMailbox (m .geometry) t d) (m .responses))
+    ≡ mailSlot (update₂ (x .mailbox) (home m (commandBlock k)) (commandCache k) z t d .mail)
 taken-mails m x ok i k e z zm = update₂-each (λ t d z. map To (kept-by (toMailbox n t d) (without (m .commands) i))
-      ++ map From (kept-by (fromMailbox n t d) (m .responses)) ≡ mailSlot (z .mail)) (x .mailbox) s c z
+    ++ map From (kept-by (fromMailbox n t d) (m .responses)) ≡ mailSlot (z .mail)) (x .mailbox) s c z
     (rw (there .1, there .2, zm) refl)
     (λ t d a. rw (taken-other (toMailbox n t d) (m .commands) i k e (other-key s c t d a)) (ok .mails t d))
   where
     n : Sizes
     n = m .geometry
+
     s : ℕ
     s = home m (commandBlock k)
+
     c : ℕ
     c = commandCache k
+
     there : (x .mailbox s c .mail ≡ To k) × (kept-by (toMailbox n s c) (without (m .commands) i) ≡ [])
         × (kept-by (fromMailbox n s c) (m .responses) ≡ [])
     there = took-command m x ok i k e s c refl refl

@@ -28,7 +28,7 @@ use Rattle.machine.proofs.Ghost.{Stage, Evicting, Clearing, Asked, Sent, Fille
 
 pub data Role : Type 0 where
   Requestor : Role
-  Giver : ℕ → State → State → Bool → Role      -- the owner that hands over: its way, the state shown, its next state, whether it writes back
+  Giver : ℕ → State → State → Bool → Role  -- the owner that hands over: its way, the state shown, its next state, whether it writes back
   Bystander : Role
 
 abbrev pub giverRole : Source → ℕ → Role

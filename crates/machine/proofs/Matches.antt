@@ -41,9 +41,14 @@ pub record Added : Type 0 where
 -- the machine read by keys
 abbrev pub ghostOf : Machine → Added → Ghost
 ghostOf m x = record {
-  geometry = m .geometry; entry = m .entry; way = m .way; mailbox = x .mailbox; progress = x .progress;
+  geometry = m .geometry;
+  entry = m .entry;
+  way = m .way;
+  mailbox = x .mailbox;
+  progress = x .progress;
   waiter = λ c. record { kept = m .kept c; request = x .request c };
-  atMemory = λ b. record { memory = m .memory b; pending = x .pending b; latest = x .latest b } }
+  atMemory = λ b. record { memory = m .memory b; pending = x .pending b; latest = x .latest b };
+}
 
 -- ---- at most one message, as a list
 
@@ -175,12 +180,12 @@ slot-from (From x) k e = cc
 pub took-command : (m : Machine) (x : Added) → Matches m x → (i : ℕ) (k : Command) → nth (m .commands) i ≡ Some k → (s c : ℕ)
     → s ≡ setOf (m .geometry) (commandBlock k) → c ≡ commandCache k
     → (x .mailbox s c .mail ≡ To k)
-      × (kept-by (toMailbox (m .geometry) s c) (without (m .commands) i) ≡ []) × (kept-by (fromMailbox (m .geometry) s c) (m .responses) ≡ [])
+    × (kept-by (toMailbox (m .geometry) s c) (without (m .commands) i) ≡ []) × (kept-by (fromMailbox (m .geometry) s c) (m .responses) ≡ [])
 took-command m x sh i k e s c p q =
     let there = and-from (eqb (setOf (m .geometry) (commandBlock k)) s) (eqb (commandCache k) c)
-          (eq-eqb (setOf (m .geometry) (commandBlock k)) s (sym p)) (eq-eqb (commandCache k) c (sym q)) in
+    (eq-eqb (setOf (m .geometry) (commandBlock k)) s (sym p)) (eq-eqb (commandCache k) c (sym q)) in
     let r = only-left To From (toMailbox (m .geometry) s c) (m .commands) (kept-by (fromMailbox (m .geometry) s c) (m .responses)) i k
-          (mailSlot (x .mailbox s c .mail)) e there (sh .mails s c) (slot-short (x .mailbox s c .mail)) in
+    (mailSlot (x .mailbox s c .mail)) e there (sh .mails s c) (slot-short (x .mailbox s c .mail)) in
     (slot-is (x .mailbox s c .mail) k (r .0), r .1, r .2)
 
 pub pending-short : (p : Pending) → length (pendingSlot p) ≤ 1
@@ -198,9 +203,10 @@ pending-is (Waiting ws) q e = cc
 -- the memory command whose turn it is is what its block has on its way
 pub took-memory-command : (m : Machine) (x : Added) → Matches m x → (i : ℕ) (k : MemoryCommand) → nth (m .memoryCommands) i ≡ Some k
     → (x .pending (memoryCommandBlock k) ≡ pendingOf k)
-      × (kept-by (atBlock (memoryCommandBlock k)) (without (m .memoryCommands) i) ≡ []) × (kept-by (writesBack (memoryCommandBlock k)) (m .responses) ≡ [])
+    × (kept-by (atBlock (memoryCommandBlock k)) (without (m .memoryCommands) i) ≡ []) ×
+    (kept-by (writesBack (memoryCommandBlock k)) (m .responses) ≡ [])
 took-memory-command m x sh i k e =
     let b : ℕ = memoryCommandBlock k in
     let r = only-left pendingOf pendingIn (atBlock b) (m .memoryCommands) (kept-by (writesBack b) (m .responses)) i k (pendingSlot (x .pending b)) e
-          (eq-eqb b b refl) (sh .pendings b) (pending-short (x .pending b)) in
+    (eq-eqb b b refl) (sh .pendings b) (pending-short (x .pending b)) in
     (pending-is (x .pending b) (pendingOf k) (r .0), r .1, r .2)

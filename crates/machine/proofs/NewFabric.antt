@@ -27,4 +27,5 @@ new-fabric-good n content = record {
   agrees = λ s c w. record { state = refl; block = refl };
   copies = λ s c w h. absurd (false≢true h);
   mails = λ s c d b w st ws sender e. absurd (no-mail-to e);
-  newest = λ b. inl refl }
+  newest = λ b. inl refl;
+}

@@ -72,7 +72,7 @@ module _ (m : Machine) (x : Added) (inv : Invariant (ghostOf m x)) (lawful : (st
   none-owns : owner m (q .block) ≡ None → OthersShare f (jobFor m q)
   none-owns e c w n h k = held-not-owning (f c w .state) h
       (ap owning (sym (state-at m in-range c (q .block) w apart h k))
-        ∙ lowest-none (λ c. owning (shownState m c (q .block))) (m .geometry .caches) e c (in-range (home m (q .block)) c w h .0))
+      ∙ lowest-none (λ c. owning (shownState m c (q .block))) (m .geometry .caches) e c (in-range (home m (q .block)) c w h .0))
 
   none-read-only : owner m (q .block) ≡ None → GetsReadOnly f (jobFor m q)
   none-read-only e c w n h k r = rw (read-row r S is-S) (surely-clean-read-only (m .rows S .requestor) (lawful S))
@@ -80,8 +80,9 @@ module _ (m : Machine) (x : Added) (inv : Invariant (ghostOf m x)) (lawful : (st
       go : (z : Option ℕ) → lowest (λ c. sharing (shownState m c (q .block))) (m .geometry .caches) ≡ z → unowned z ≡ S
       go (Some a) i = refl
       go None i = absurd (false≢true (sym (lowest-none (λ c. sharing (shownState m c (q .block))) (m .geometry .caches) i c
-            (in-range (home m (q .block)) c w h .0))
+          (in-range (home m (q .block)) c w h .0))
           ∙ ap sharing (state-at m in-range c (q .block) w apart h k ∙ none-owns e c w n h k)))
+
       is-S : stateBy m (q .block) (owner m (q .block)) ≡ S
       is-S = ap (stateBy m (q .block)) e ∙ go (lowest (λ c. sharing (shownState m c (q .block))) (m .geometry .caches)) refl
 
@@ -99,43 +100,60 @@ module _ (m : Machine) (x : Added) (inv : Invariant (ghostOf m x)) (lawful : (st
     where
       own : owning (shownState m (q .cache) (q .block)) ≡ true
       own = subst (λ c. owning (shownState m c (q .block)) ≡ true) i (owns o e)
+
       it : ShownAt m (q .cache) (q .block)
       it = shown-held m (q .cache) (q .block) (owning-held (shownState m (q .cache) (q .block)) own)
+
       up : upgrading m q ≡ true
       up = shows-it (it .way) (it .isHeld) (it .block)
+
       only : OthersShare f (jobFor m q)
       only c w n h k = beside-owner (f (q .cache) (it .way) .state) (f c w .state) (ap owning (sym (it .state)) ∙ own)
           (apart (q .cache) (it .way) c w (λ z _. n (sym z)) (it .isHeld) h (it .block ∙ sym k) .1)
 
   by-owner : (o : ℕ) → owner m (q .block) ≡ Some o → (o ≡ q .cache → ⊥)
       → OwnerPlan f (jobFor m q) o (orZero (shownWay m o (q .block))) (shownState m o (q .block)) (rowFor m q .owner) (rowFor m q .writeback)
-  by-owner o e n = record { other = n; owned = owns o e; at = at-it; letsGo = lets (isWrite (q .access)) refl;
-      covered = covers (isWrite (q .access)) refl; pair = λ h. pairs (isWrite (q .access)) refl h;
-          sole = λ w. sole w (writable (row .requestor)) refl }
+  by-owner o e n = record {
+    other = n;
+    owned = owns o e;
+    at = at-it;
+    letsGo = lets (isWrite (q .access)) refl;
+    covered = covers (isWrite (q .access)) refl;
+    pair = λ h. pairs (isWrite (q .access)) refl h;
+    sole = λ w. sole w (writable (row .requestor)) refl;
+  }
     where
       it : ShownAt m o (q .block)
       it = shown-held m o (q .block) (owning-held (shownState m o (q .block)) (owns o e))
+
       row : Row
       row = m .rows (shownState m o (q .block))
+
       law : OwnedRow (shownState m o (q .block)) row
       law = owned-row-of (shownState m o (q .block)) row (owns o e) (lawful (shownState m o (q .block)))
+
       read : isWrite (q .access) ≡ false → rowFor m q ≡ row
       read w = read-row w (shownState m o (q .block)) (ap (stateBy m (q .block)) e)
+
       at-it : f o (orZero (shownWay m o (q .block))) ≡ entryIn (shownState m o (q .block)) (q .block)
       at-it = ap (λ z. f o (orZero z)) (it .shown) ∙ entry-from (f o (it .way)) (q .block) (it .isHeld) (it .block)
           ∙ ap (λ z. entryIn z (q .block)) (sym (it .state))
+
       lets : (t : Bool) → isWrite (q .access) ≡ t → writable (rowFor m q .owner) ≡ false
       lets true w = ap (λ r. writable (r .owner)) (write-row w)
       lets false w = ap (λ r. writable (r .owner)) (read w) ∙ law .letsGo
+
       covers : (t : Bool) → isWrite (q .access) ≡ t → (shownState m o (q .block) ≡ F)
           ⊎ ((rowFor m q .writeback ≡ true) ⊎ ((rowFor m q .owner ≡ O) ⊎ (dirty (rowFor m q .requestor) ≡ true)))
       covers true w = inr (inr (inr (ap (λ r. dirty (r .requestor)) (write-row w))))
       covers false w = subst (λ r. (shownState m o (q .block) ≡ F) ⊎ ((r .writeback ≡ true) ⊎ ((r .owner ≡ O) ⊎ (dirty (r .requestor) ≡ true))))
           (sym (read w)) (law .covered)
+
       pairs : (t : Bool) → isWrite (q .access) ≡ t → held (rowFor m q .owner) ≡ true → goTogether (rowFor m q .requestor) (rowFor m q .owner) ≡ true
       pairs true w h = absurd (false≢true (ap (λ r. held (r .owner)) (sym (write-row w)) ∙ h))
       pairs false w h = subst (λ r. goTogether (r .requestor) (r .owner) ≡ true) (sym (read w))
           (row-pair (shownState m o (q .block)) row law (ap (λ r. held (r .owner)) (sym (read w)) ∙ h))
+
       sole : isWrite (q .access) ≡ false → (t : Bool) → writable (row .requestor) ≡ t
           → (readOnly (rowFor m q .requestor) ≡ true) ⊎ (writable (shownState m o (q .block)) ≡ true)
       sole w true i = inr (law .sole i .0)
@@ -151,17 +169,23 @@ module _ (m : Machine) (x : Added) (inv : Invariant (ghostOf m x)) (lawful : (st
       go false i = by-owner o e (eqb-false o (q .cache) i)
 
   pub planned : Plan (m .geometry) (home m (q .block)) f (jobFor m q)
-  planned = record { here = refl; gets = gets (isWrite (q .access)) refl; writes = λ w. ap (λ r. r .requestor) (write-row w);
-      upgrades = λ u. and-parts (isWrite (q .access)) (found (shownWay m (q .cache) (q .block))) u .0;
-      copy = λ u. copy (shownWay m (q .cache) (q .block)) refl (and-parts (isWrite (q .access)) (found (shownWay m (q .cache) (q .block))) u .1);
-      notShown = λ u w h k. false≢true (sym u ∙ shows-it w h k);
-      source = planned-source (owner m (q .block)) refl }
+  planned = record {
+    here = refl;
+    gets = gets (isWrite (q .access)) refl;
+    writes = λ w. ap (λ r. r .requestor) (write-row w);
+    upgrades = λ u. and-parts (isWrite (q .access)) (found (shownWay m (q .cache) (q .block))) u .0;
+    copy = λ u. copy (shownWay m (q .cache) (q .block)) refl (and-parts (isWrite (q .access)) (found (shownWay m (q .cache) (q .block))) u .1);
+    notShown = λ u w h k. false≢true (sym u ∙ shows-it w h k);
+    source = planned-source (owner m (q .block)) refl;
+  }
     where
       st : State
       st = stateBy m (q .block) (owner m (q .block))
+
       gets : (t : Bool) → isWrite (q .access) ≡ t → held (rowFor m q .requestor) ≡ true
       gets true w = ap (λ r. held (r .requestor)) (write-row w)
       gets false w = ap (λ r. held (r .requestor)) (read-row w st refl) ∙ lawful-gets st (m .rows st) (lawful st)
+
       copy : (z : Option ℕ) → shownWay m (q .cache) (q .block) ≡ z → found z ≡ true
           → (f (q .cache) (q .way) .block ≡ q .block) × (readOnly (f (q .cache) (q .way) .state) ≡ true)
       copy None e s = absurd (false≢true s)
@@ -175,14 +199,17 @@ module _ (m : Machine) (x : Added) (inv : Invariant (ghostOf m x)) (lawful : (st
       unowned-range : (t : Bool) → OwnerInRange (unownedSource t)
       unowned-range true = tt
       unowned-range false = tt
+
       go : (z : Option ℕ) → owner m (q .block) ≡ z → OwnerInRange (sourceBy m q z)
       go None e = unowned-range (upgrading m q)
       go (Some o) e = at (eqb o (q .cache))
         where
           it : ShownAt m o (q .block)
           it = shown-held m o (q .block) (owning-held (shownState m o (q .block)) (owns o e))
+
           low : orZero (shownWay m o (q .block)) < 4
           low = subst (λ z. orZero z < 4) (sym (it .shown)) (way-below (m .geometry) bounds (it .way) (it .below))
+
           at : (t : Bool) → OwnerInRange (cond t (unownedSource (upgrading m q))
               (Owner o (orZero (shownWay m o (q .block))) (shownState m o (q .block)) (rowFor m q .owner) (rowFor m q .writeback)))
           at true = unowned-range (upgrading m q)

@@ -30,15 +30,20 @@ pub sole-place : (g : Ghost) → Invariant g → (s c w t d x : ℕ) → writabl
 sole-place g inv s c w t d x h k e = (sets, clash)
   where
     open Invariant inv using (agrees, copiesHome, copiesApart)
+
     wr : writable (g .mailbox s c .known w .state) ≡ true
     wr = known-writable g inv s c w h
+
     hd : held (g .mailbox t d .known x .state) ≡ true
     hd = known-held g inv t d x k
+
     same : g .mailbox s c .known w .block ≡ g .mailbox t d .known x .block
     same = agrees s c w .block ∙ e ∙ sym (agrees t d x .block)
+
     sets : t ≡ s
     sets = sym (copiesHome t d x hd .0) ∙ ap (setOf (g .geometry)) (sym same)
         ∙ copiesHome s c w (writable-held (g .mailbox s c .known w .state) wr) .0
+
     clash : (c ≡ d → w ≡ x → ⊥) → ⊥
     clash n = writable-alone (g .mailbox s c .known w .state) (g .mailbox s d .known x .state) wr
         (copiesApart s c w d x n (writable-held (g .mailbox s c .known w .state) wr) (rw sets at hd) (rw sets at same) .1)

@@ -27,8 +27,14 @@ bounds-of n h =
     let r = and-parts (within 1 (n .ways) 4) (within 1 (n .blocks) 1024) (q .1) in
     let sets = within-is 1 (n .sets) 16 (q .0) in
     let ways = within-is 1 (n .ways) 4 (r .0) in
-    record { caches = within-is 1 (n .caches) 8 (p .0) .1; someSets = sets .0; sets = sets .1; someWays = ways .0; ways = ways .1;
-      blocks = within-is 1 (n .blocks) 1024 (r .1) .1 }
+    record {
+      caches = within-is 1 (n .caches) 8 (p .0) .1;
+      someSets = sets .0;
+      sets = sets .1;
+      someWays = ways .0;
+      ways = ways .1;
+      blocks = within-is 1 (n .blocks) 1024 (r .1) .1;
+    }
 
 pub set-below : (n : Sizes) → Bounds n → (b : ℕ) → setOf n b < 16
 set-below n in-bounds b = let l = mod-below b (n .sets) (in-bounds .someSets) in let m = in-bounds .sets in omega arith

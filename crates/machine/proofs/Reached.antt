@@ -35,20 +35,27 @@ pub record Reached (content : ℕ → Words) (m : Machine) (past : List Event) (
   pub turns : (s c : ℕ) → m .turn s c < m .geometry .ways
 
 abbrev pub addedAtStart : (ℕ → Words) → Added
-addedAtStart content = record { mailbox = λ _ _. record { known = λ _. noEntry; mail = Nothing }; progress = λ _. None; request = λ _. None;
-    pending = λ _. Idle; latest = content }
+addedAtStart content = record {
+  mailbox = λ _ _. record { known = λ _. noEntry; mail = Nothing };
+  progress = λ _. None;
+  request = λ _. None;
+  pending = λ _. Idle;
+  latest = content;
+}
 
 pub reached-start : (g : Sizes) (rows : State → Row) (content : ℕ → Words) → Bounds g → Lawful rows
     → Reached content (new g rows content) [] (addedAtStart content)
 reached-start g rows content bounds lawful = record {
-  bounds = bounds; lawful = lawful;
+  bounds = bounds;
+  lawful = lawful;
   matches = record { serving = λ s. tt; requests = λ c. refl; mails = λ s c. refl; pendings = λ b. refl; weights = λ s. refl; left = λ s. tt };
   inv = new-fabric-good g content;
   rooms = record { requests = omega arith; commands = omega arith; responses = omega arith; memoryCommands = omega arith };
   owed = λ s _. refl;
   words = λ b k _. refl;
   orders = λ c. (refl, λ o e. grind arith);
-  turns = λ s c. bounds .someWays }
+  turns = λ s c. bounds .someWays;
+}
 
 -- what a call with this outcome keeps
 abbrev pub Keeps : (ℕ → Words) → Machine → List Event → Call → Outcome → Type 0

@@ -32,6 +32,7 @@ took-request m x sh i q e = go (x .request (q .cache)) refl
   where
     p : Request → Bool
     p = λ a. eqb (a .cache) (q .cache)
+
     go : (z : Option Request) → x .request (q .cache) ≡ z → (x .request (q .cache) ≡ Some q) × (kept-by p (without (m .requests) i) ≡ [])
     go None k = absurd (kept-none p (m .requests) i q e (eq-eqb (q .cache) (q .cache) refl) (sh .requests (q .cache) ∙ ap requestSlot k))
     go (Some y) k = let o = taken-one p (m .requests) i q y e (eq-eqb (q .cache) (q .cache) refl) (sh .requests (q .cache) ∙ ap requestSlot k) in

@@ -83,12 +83,14 @@ module _ (m : Machine) (r b : ℕ) where
     where
       at : (t : Bool) → eqb c d ≡ t
           → kept-by (toMailbox (m .geometry) (home m b) d) (Invalidate c b (orZero (shownWay m c b)) ∷ [])
-              ≡ cond t (Invalidate c b (orZero (shownWay m c b)) ∷ []) []
+          ≡ cond t (Invalidate c b (orZero (shownWay m c b)) ∷ []) []
       at true e = rw (eq-eqb (home m b) (home m b) refl, e) refl
       at false e = rw (eq-eqb (home m b) (home m b) refl, e) refl
+
       flat : (t : Bool) → [] ≡ cond {A = List Command} t [] []
       flat true = refl
       flat false = refl
+
       go : (t : Bool) → kept-by (toMailbox (m .geometry) (home m b) d) (cond t (Invalidate c b (orZero (shownWay m c b)) ∷ []) [])
           ≡ cond (eqb c d) (cond t (Invalidate c b (orZero (shownWay m c b)) ∷ []) []) []
       go true = at (eqb c d) refl
@@ -121,6 +123,7 @@ module _ (m : Machine) (r b : ℕ) where
     where
       far : held (shownState m d b) ≡ true → ⊥
       far h = let it = shown-held m d b h in let z = ranged (home m b) d (it .way) (it .isHeld) .0 in omega arith
+
       silent : (st : State) → shownState m d b ≡ st → sharing (shownState m d b) ≡ false
       silent I e = rw e refl
       silent S e = absurd (far (rw e refl))
@@ -178,12 +181,13 @@ module _ (m : Machine) (q : Request) where
 
   module _ (ranged : EntriesInRange m)
       (homed : held (m .entry (home m (q .block)) (q .cache) (q .way) .state) ≡ true
-        → setOf (m .geometry) (m .entry (home m (q .block)) (q .cache) (q .way) .block) ≡ home m (q .block)) where
+      → setOf (m .geometry) (m .entry (home m (q .block)) (q .cache) (q .way) .block) ≡ home m (q .block)) where
     own-one : OneTo (m .geometry) (home m (q .block)) (q .cache) ownCommand
     own-one = go (upgrading m q) (held (e .state)) refl (mayBeDirty (e .state))
       where
         e : Entry
         e = m .entry (home m (q .block)) (q .cache) (q .way)
+
         go : (t h : Bool) → held (e .state) ≡ h → (d : Bool) → OneTo (m .geometry) (home m (q .block)) (q .cache)
             (cond t [] (cond h (cond d (SetStateWriteback (q .cache) (e .block) (q .way) ∷ []) (Invalidate (q .cache) (e .block) (q .way) ∷ [])) []))
         go true h i d = none-to (m .geometry) (home m (q .block)) (q .cache)
@@ -205,16 +209,17 @@ module _ (m : Machine) (q : Request) where
     first-key : (c : ℕ) → kept-by (toMailbox (m .geometry) (home m (q .block)) c) (firstRound m q)
         ≡ cond (eqb c (q .cache)) ownCommand (cond (isWrite (q .access)) (sentTo m (q .cache) (q .block) c) [])
     first-key c = kept-by-append (toMailbox (m .geometry) (home m (q .block)) c) ownCommand
-          (cond (isWrite (q .access)) (dismiss m (q .cache) (q .block) (m .geometry .caches)) [])
+        (cond (isWrite (q .access)) (dismiss m (q .cache) (q .block) (m .geometry .caches)) [])
         ∙ rw (own-one .2 c, key (isWrite (q .access))) (go (cases-eq c (q .cache)))
       where
         key : (t : Bool) → kept-by (toMailbox (m .geometry) (home m (q .block)) c) (cond t (dismiss m (q .cache) (q .block) (m .geometry .caches)) [])
             ≡ cond t (sentTo m (q .cache) (q .block) c) []
         key true = dismiss-key m (q .cache) (q .block) ranged c
         key false = refl
+
         mine : c ≡ q .cache → (t u : Bool) → eqb c (q .cache) ≡ u
             → cond t (cond (sharing (shownState m c (q .block)) && not u) (Invalidate c (q .block) (orZero (shownWay m c (q .block))) ∷ []) []) []
-                ≡ []
+            ≡ []
         mine z true true i = at (sharing (shownState m c (q .block)))
           where
             at : (t : Bool) → cond (t && false) (Invalidate c (q .block) (orZero (shownWay m c (q .block))) ∷ []) [] ≡ []
@@ -222,6 +227,7 @@ module _ (m : Machine) (q : Request) where
             at false = refl
         mine z true false i = absurd (eqb-false c (q .cache) i z)
         mine z false u i = refl
+
         go : (c ≡ q .cache) ⊎ (c ≡ q .cache → ⊥)
             → cond (eqb c (q .cache)) ownCommand [] ++ cond (isWrite (q .access)) (sentTo m (q .cache) (q .block) c) []
             ≡ cond (eqb c (q .cache)) ownCommand (cond (isWrite (q .access)) (sentTo m (q .cache) (q .block) c) [])

@@ -61,6 +61,7 @@ row-pair st r l h = go (writable (r .requestor)) refl
   where
     go : (t : Bool) → writable (r .requestor) ≡ t → goTogether (r .requestor) (r .owner) ≡ true
     go true w = absurd (false≢true (rw (l .sole w .1) at h))
-    go false w = elim (l .oneOwner)
-        [ inl a ↦ rw (held-not-owning (r .owner) h a) (read-only-S (r .requestor) (held-read-only (r .requestor) (l .gets) w) .0)
-        | inr a ↦ rw (held-not-owning (r .requestor) (l .gets) a) (read-only-S (r .owner) (held-read-only (r .owner) h (l .letsGo)) .1) ]
+    go false w = elim (l .oneOwner) [
+      | inl a ↦ rw (held-not-owning (r .owner) h a) (read-only-S (r .requestor) (held-read-only (r .requestor) (l .gets) w) .0)
+      | inr a ↦ rw (held-not-owning (r .requestor) (l .gets) a) (read-only-S (r .owner) (held-read-only (r .owner) h (l .letsGo)) .1)
+    ]

@@ -94,7 +94,7 @@ owned-row : (st : State) (r : Row) → owning st ≡ true → handoverLaw st r �
     → (st ≡ F) ⊎ ((r .writeback ≡ true) ⊎ ((r .owner ≡ O) ⊎ (dirty (r .requestor) ≡ true))) → OwnedRow st r
 owned-row st r o two three four =
     let h = and-parts (not (writable (r .owner))) (held (r .requestor) && not (owning (r .owner) && owning (r .requestor)))
-          (implied (owning st) (not (writable (r .owner)) && (held (r .requestor) && not (owning (r .owner) && owning (r .requestor)))) two o) in
+    (implied (owning st) (not (writable (r .owner)) && (held (r .requestor) && not (owning (r .owner) && owning (r .requestor)))) two o) in
     let k = and-parts (held (r .requestor)) (not (owning (r .owner) && owning (r .requestor))) (h .1) in
     record {
       letsGo = not-true (writable (r .owner)) (h .0);
@@ -102,9 +102,10 @@ owned-row st r o two three four =
       oneOwner = not-both (owning (r .owner)) (owning (r .requestor)) (k .1);
       sole = λ w. let e = and-parts (writable st) (sameState (r .owner) I)
           (implied (owning st && writable (r .requestor)) (writable st && sameState (r .owner) I) three
-            (and-from (owning st) (writable (r .requestor)) o w)) in
-        (e .0, is-I (r .owner) (e .1));
-      covered = four }
+          (and-from (owning st) (writable (r .requestor)) o w)) in
+          (e .0, is-I (r .owner) (e .1));
+      covered = four;
+    }
 
 -- the four tests, one by one
 laws : (st : State) (r : Row) → lawful st r ≡ true

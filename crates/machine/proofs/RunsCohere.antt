@@ -21,7 +21,8 @@ use Rattle.machine.proofs.Reached.{Reached, addedAtStart, reached-start}
 use Rattle.machine.proofs.CallKeeps.{call-keeps}
 
 -- what a run from m reaches
-run-reaches : (content : ℕ → Words) (calls : List Call) (m : Machine) (past : List Event) (x : Added) → Reached content m past x → NoStaleLoad content past
+run-reaches : (content : ℕ → Words) (calls : List Call) (m : Machine) (past : List Event) (x : Added) → Reached content m past x
+    → NoStaleLoad content past
     → (y : Added) × Reached content (runOn m past calls .machine) (runOn m past calls .events) y × NoStaleLoad content (runOn m past calls .events)
 run-reaches content [] m past x r fresh = (x, r, fresh)
 run-reaches content (a ∷ calls) m past x r fresh = let q = call-keeps content m past x r a in
@@ -39,6 +40,7 @@ quiet-count m x sh q s = go (m .serving s) refl (rw (q .noCommands, q .noRespons
   where
     sum : m .count s ≡ ackOwed (m .serving s)
     sum = let e = rw (q .noCommands, q .noResponses, q .noMemoryCommands) at (sh .weights s) in omega arith
+
     go : (t : Option Transaction) → m .serving s ≡ t → Left t 0 → m .count s ≡ 0
     go None i l = sum ∙ rw i refl
     go (Some t) i l = at (t .round) refl l
@@ -57,7 +59,8 @@ quiet-settled : (content : ℕ → Words) (m : Machine) (past : List Event) (x :
 quiet-settled content m past x r q = record {
   noneWaits = settled-idle (ghostOf m x) (r .inv) idle (λ c. asks-nothing (x .request c) (rw (q .noRequests) at (r .matches .requests c)));
   noneOwed = quiet-count m x (r .matches) q;
-  agrees = settled-agrees (ghostOf m x) (r .inv) idle }
+  agrees = settled-agrees (ghostOf m x) (r .inv) idle;
+}
   where
     idle : (s : ℕ) → x .progress s ≡ None
     idle s = no-progress (m .serving s) (x .progress s) (r .matches .serving s) (r .owed s (quiet-count m x (r .matches) q s))
@@ -69,5 +72,9 @@ coherence g rows content bounded lawful calls =
     let m : Machine = new g rows content in
     let q = run-reaches content calls m [] (addedAtStart content) (reached-start g rows content (bounds-of g bounded) lawful) tt in
     let settles = quiet-settled content (run m calls .machine) (run m calls .events) (q .0) (q .1) in
-    record { noStaleLoad = q .2; soleHolder = sole-holder (ghostOf (run m calls .machine) (q .0)) (q .1 .inv); settled = settles;
-      allFinished = λ z c. q .1 .orders c .0 ∙ settles z .noneWaits c }
+    record {
+      noStaleLoad = q .2;
+      soleHolder = sole-holder (ghostOf (run m calls .machine) (q .0)) (q .1 .inv);
+      settled = settles;
+      allFinished = λ z c. q .1 .orders c .0 ∙ settles z .noneWaits c;
+    }

@@ -34,13 +34,19 @@ module _ (m : Machine) where
       → (held (m .entry (home m b) c w .state) ≡ true) × (m .entry (home m b) c w .block ≡ b)
   shown-entry c b w e =
       let p = and-parts (held (m .entry (home m b) c w .state)) (eqb (m .entry (home m b) c w .block) b)
-            (lowest-passes (passes c b) (m .geometry .ways) w e) in
+      (lowest-passes (passes c b) (m .geometry .ways) w e) in
       (p .0, eqb-true (m .entry (home m b) c w .block) b (p .1))
 
   shown-some : (c b w : ℕ) → shownWay m c b ≡ Some w → ShownAt m c b
   shown-some c b w e = let p = shown-entry c b w e in
-      record { way = w; shown = e; isHeld = p .0; block = p .1; state = ap (stateAt m c b) e;
-          below = lowest-below (passes c b) (m .geometry .ways) w e }
+      record {
+        way = w;
+        shown = e;
+        isHeld = p .0;
+        block = p .1;
+        state = ap (stateAt m c b) e;
+        below = lowest-below (passes c b) (m .geometry .ways) w e;
+      }
 
   -- a state that is shown is an entry's
   pub shown-held : (c b : ℕ) → held (shownState m c b) ≡ true → ShownAt m c b
@@ -58,11 +64,12 @@ module _ (m : Machine) where
       go : (o : Option ℕ) → shownWay m c b ≡ o → shownWay m c b ≡ Some w
       go None e = absurd (false≢true (sym (lowest-none (passes c b) (m .geometry .ways) e w (ranged (home m b) c w h .1))
           ∙ and-from (held (m .entry (home m b) c w .state)) (eqb (m .entry (home m b) c w .block) b) h
-              (eq-eqb (m .entry (home m b) c w .block) b k)))
+          (eq-eqb (m .entry (home m b) c w .block) b k)))
       go (Some v) e = at (cases-eq v w)
         where
           p : (held (m .entry (home m b) c v .state) ≡ true) × (m .entry (home m b) c v .block ≡ b)
           p = shown-entry c b v e
+
           at : (v ≡ w) ⊎ (v ≡ w → ⊥) → shownWay m c b ≡ Some w
           at (inl i) = e ∙ ap (λ a. Some a) i
           at (inr i) = absurd (apart c v c w (λ _ z. i z) (p .0) h (p .1 ∙ sym k) .0 refl)

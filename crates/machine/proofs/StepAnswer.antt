@@ -48,8 +48,15 @@ pub answer-keeps : (g : Ghost) → Invariant g → (s c : ℕ) (r : Response) �
 answer-keeps g inv s c r m = record {
   mailboxes = update₂-each (λ t a z. GoodMailbox (g .progress t) a (g .entry t a) z) (g .mailbox) s c y
       (emptied-good (g .progress s) c (g .entry s c) (g .mailbox s c) r m (inv .mailboxes s c)) (λ t a _. inv .mailboxes t a);
-  jobs = inv .jobs; entriesApart = inv .entriesApart; entriesHome = inv .entriesHome; blanks = inv .blanks; waits = inv .waits; asks = inv .asks;
-      ranges = inv .ranges; pendings = inv .pendings; pendingRanges = inv .pendingRanges;
+  jobs = inv .jobs;
+  entriesApart = inv .entriesApart;
+  entriesHome = inv .entriesHome;
+  blanks = inv .blanks;
+  waits = inv .waits;
+  asks = inv .asks;
+  ranges = inv .ranges;
+  pendings = inv .pendings;
+  pendingRanges = inv .pendingRanges;
   copiesApart = copies-apart-after g inv s c y weak;
   copiesHome = copies-home-after g inv s c y weak;
   places = places-after g inv s c y weak;
@@ -57,9 +64,11 @@ answer-keeps g inv s c r m = record {
   copies = inv .copies;
   mails = update₂-each (λ t a z. GoodMail (g .atMemory) (z .mail)) (g .mailbox) s c y (λ _ _ _ _ _ _ q. absurd (no-mail-to q))
       (λ t a _. inv .mails t a);
-  newest = inv .newest }
+  newest = inv .newest;
+}
   where
     y : Mailbox
     y = emptied (g .mailbox s c)
+
     weak : (w : ℕ) → Weaker (y .known w) (g .mailbox s c .known w)
     weak w = weaker-same (g .mailbox s c .known w)

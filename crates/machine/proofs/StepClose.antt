@@ -18,8 +18,17 @@ close-keeps g inv s j h quiet idle = record {
   mailboxes = update-each (λ t z. (c : ℕ) → GoodMailbox z c (g .entry t c) (g .mailbox t c)) (g .progress) s None
       (λ c. (filled-at j (role j c) c (g .entry s c) (g .mailbox s c) (rw h at (inv .mailboxes s c)), quiet c)) (λ t _. inv .mailboxes t);
   jobs = update-each (λ t z. GoodProgress (g .geometry) t (g .entry t) z) (g .progress) s None tt (λ t _. inv .jobs t);
-  entriesApart = inv .entriesApart; entriesHome = inv .entriesHome; blanks = inv .blanks; asks = inv .asks; ranges = inv .ranges;
-  copiesApart = inv .copiesApart; copiesHome = inv .copiesHome; places = inv .places; agrees = inv .agrees; copies = inv .copies; mails = inv .mails;
+  entriesApart = inv .entriesApart;
+  entriesHome = inv .entriesHome;
+  blanks = inv .blanks;
+  asks = inv .asks;
+  ranges = inv .ranges;
+  copiesApart = inv .copiesApart;
+  copiesHome = inv .copiesHome;
+  places = inv .places;
+  agrees = inv .agrees;
+  copies = inv .copies;
+  mails = inv .mails;
   waits = update-each (λ t z. (c : ℕ) → GoodWait (g .geometry) t z c (g .waiter c)) (g .progress) s None (λ c. rw h at (inv .waits s c))
       (λ t _. inv .waits t);
   pendings = λ b. update-each (λ t z. setOf (g .geometry) b ≡ t → GoodPending z b (g .atMemory b .pending)) (g .progress) s None (λ e. idle b e)
@@ -27,4 +36,5 @@ close-keeps g inv s j h quiet idle = record {
   pendingRanges = inv .pendingRanges;
   newest = λ b. update-each (λ t z. setOf (g .geometry) b ≡ t → Newest (g .way t) z b (g .atMemory b)) (g .progress) s None
       (λ e. elim (rw e at (inv .newest b)) [ inl q ↦ inl q | inr q ↦ inr (elim q [ inl u ↦ inl u | inr u ↦ grind arith ]) ])
-      (λ t _ e. rw (sym e) (inv .newest b)) (setOf (g .geometry) b) refl }
+      (λ t _ e. rw (sym e) (inv .newest b)) (setOf (g .geometry) b) refl;
+}

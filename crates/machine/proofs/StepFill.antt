@@ -37,8 +37,8 @@ pub data-keeps : (g : Ghost) → Invariant g → (s : ℕ) (j : Job) (ws : Words
 data-keeps g inv s j ws h good =
     let me = requestor-at g inv s j Sent h in
     fill-keeps g inv s j Sent ws h refl
-      (me .0, me .1) (me .2 .0) (λ c n. sent-filled j (role j c) c (g .entry s c) (g .mailbox s c) refl n (rw h at (inv .mailboxes s c)))
-      (λ b e. rw (e, h) at (inv .pendings b)) good
+    (me .0, me .1) (me .2 .0) (λ c n. sent-filled j (role j c) c (g .entry s c) (g .mailbox s c) refl n (rw h at (inv .mailboxes s c)))
+    (λ b e. rw (e, h) at (inv .pendings b)) good
 
 -- the words are those of the requestor's own copy, or what a store made of them
 pub wakeup-keeps : (g : Ghost) → Invariant g → (s : ℕ) (j : Job) (ws : Words) → g .progress s ≡ Some (atStage Asked j) → j .source ≡ OwnCopy
@@ -47,6 +47,6 @@ wakeup-keeps g inv s j ws h m =
     let me = requestor-at g inv s j Asked h in
     let ok : GoodJob (g .geometry) s (g .entry s) j = rw h at (inv .jobs s) in
     fill-keeps g inv s j Asked ws h refl
-      (me .0, me .1) (me .2 .0) (λ c n. asked-filled j (role j c) c (g .entry s c) (g .mailbox s c) m refl n (rw h at (inv .mailboxes s c)))
-      (λ b e. let q = rw (e, h) at (inv .pendings b) in
-        ⊎-elim (λ i. rw (q .0 i, m) refl) (λ n. q .1 n) (cases-eq b (j .block))) (inr (ok .writes (ok .upgrades (rw m at (ok .source)))))
+    (me .0, me .1) (me .2 .0) (λ c n. asked-filled j (role j c) c (g .entry s c) (g .mailbox s c) m refl n (rw h at (inv .mailboxes s c)))
+    (λ b e. let q = rw (e, h) at (inv .pendings b) in
+    ⊎-elim (λ i. rw (q .0 i, m) refl) (λ n. q .1 n) (cases-eq b (j .block))) (inr (ok .writes (ok .upgrades (rw m at (ok .source)))))

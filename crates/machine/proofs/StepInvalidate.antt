@@ -31,20 +31,29 @@ droppedMailbox x p r = record { known = update (x .known) p noEntry; mail = From
 victim-drops : (j : Job) (c : ℕ) (e : ℕ → Entry) (x : Mailbox) (d b p : ℕ) (r : Response) → x .mail ≡ To (Invalidate d b p)
     → InRole (atStage Clearing j) c e x Requestor
     → (surelyClean (x .known p .state) ≡ true) × InRole (atStage Clearing j) c e (droppedMailbox x p r) Requestor
-victim-drops j c e x d b p r m ok = elim (ok .2) [ inl q ↦ grind arith
-    | inr l ↦ let pw : p ≡ j .way = cc (m, l .out) in
-        (rw pw (l .state),
-          (ok .0, (λ w n. ok .1 w n ∙ sym (update-there (x .known) p noEntry w (rw pw n))),
-            inl (rw (l .noUpgrade, pw) (update-here (x .known) (j .way) noEntry), inr (r, refl)))) ]
+victim-drops j c e x d b p r m ok = elim (ok .2) [
+  | inl q ↦ grind arith
+  | inr l ↦ let pw : p ≡ j .way = cc (m, l .out) in (
+    rw pw (l .state),
+    (
+      ok .0,
+      (λ w n. ok .1 w n ∙ sym (update-there (x .known) p noEntry w (rw pw n))),
+      inl (rw (l .noUpgrade, pw) (update-here (x .known) (j .way) noEntry), inr (r, refl)),
+    ),
+  )
+]
 
 -- a sharer lets go of a block that is written
 sharer-drops : (j : Job) (c : ℕ) (e : ℕ → Entry) (x : Mailbox) (d b p : ℕ) (r : Response) → x .mail ≡ To (Invalidate d b p)
     → InRole (atStage Clearing j) c e x Bystander
     → (surelyClean (x .known p .state) ≡ true) × InRole (atStage Clearing j) c e (droppedMailbox x p r) Bystander
-sharer-drops j c e x d b p r m ok = elim ok [ inl q ↦ grind arith
-    | inr l ↦ let pw : p ≡ l .place = cc (m, l .out) in
-        (rw (pw, l .shown) refl,
-          inl (update-each (λ w o. e w ≡ o) (x .known) p noEntry (rw pw (l .final)) (λ w n. l .rest w (rw pw at n)), inr (r, refl))) ]
+sharer-drops j c e x d b p r m ok = elim ok [
+  | inl q ↦ grind arith
+  | inr l ↦ let pw : p ≡ l .place = cc (m, l .out) in (
+    rw (pw, l .shown) refl,
+    inl (update-each (λ w o. e w ≡ o) (x .known) p noEntry (rw pw (l .final)) (λ w n. l .rest w (rw pw at n)), inr (r, refl)),
+  )
+]
 
 -- nobody else has an Invalidate in the mail; what is let go of was surely clean
 pub drops-at : (j : Job) (st : Stage) (a : Role) (c : ℕ) (e : ℕ → Entry) (x : Mailbox) (d b p : ℕ) (r : Response) → x .mail ≡ To (Invalidate d b p)
@@ -74,8 +83,15 @@ pub invalidate-keeps : (g : Ghost) → Invariant g → (s c d b p : ℕ) (r : Re
     → Invariant (setWay (setMailbox g s c (droppedMailbox (g .mailbox s c) p r)) s c p noWay)
 invalidate-keeps g inv s c d b p r m = record {
   mailboxes = update₂-each (λ t a z. GoodMailbox (g .progress t) a (g .entry t a) z) (g .mailbox) s c y (here .1) (λ t a _. inv .mailboxes t a);
-  jobs = inv .jobs; entriesApart = inv .entriesApart; entriesHome = inv .entriesHome; blanks = inv .blanks; waits = inv .waits; asks = inv .asks;
-      ranges = inv .ranges; pendings = inv .pendings; pendingRanges = inv .pendingRanges;
+  jobs = inv .jobs;
+  entriesApart = inv .entriesApart;
+  entriesHome = inv .entriesHome;
+  blanks = inv .blanks;
+  waits = inv .waits;
+  asks = inv .asks;
+  ranges = inv .ranges;
+  pendings = inv .pendings;
+  pendingRanges = inv .pendingRanges;
   copiesApart = copies-apart-after g inv s c y weak;
   copiesHome = copies-home-after g inv s c y weak;
   places = places-after g inv s c y weak;
@@ -85,15 +101,20 @@ invalidate-keeps g inv s c d b p r m = record {
   mails = update₂-each (λ t a z. GoodMail (g .atMemory) (z .mail)) (g .mailbox) s c y (λ _ _ _ _ _ _ q. absurd (no-answer q))
       (λ t a _. inv .mails t a);
   newest = λ k. elim (inv .newest k)
-      [ inl q ↦ inl q | inr q ↦ inr (elim q [ inl u ↦ inl (dirty-after (g .way) s c p noWay clean (setOf (g .geometry) k) k u) | inr u ↦ inr u ]) ] }
+      [ inl q ↦ inl q | inr q ↦ inr (elim q [ inl u ↦ inl (dirty-after (g .way) s c p noWay clean (setOf (g .geometry) k) k u) | inr u ↦ inr u ]) ];
+}
   where
     x : Mailbox
     x = g .mailbox s c
+
     y : Mailbox
     y = droppedMailbox x p r
+
     here : (surelyClean (x .known p .state) ≡ true) × GoodMailbox (g .progress s) c (g .entry s c) y
     here = drops (g .progress s) c (g .entry s c) x d b p r m (inv .mailboxes s c)
+
     weak : (w : ℕ) → Weaker (y .known w) (x .known w)
     weak = update-each (λ w o. Weaker o (x .known w)) (x .known) p noEntry (weaker-none (x .known p)) (λ w _. weaker-same (x .known w))
+
     clean : dirty (g .way s c p .state) ≡ true → (dirty (noWay .state) ≡ true) × (noWay .block ≡ g .way s c p .block)
     clean k = absurd (surely-clean-is (x .known p .state) (g .way s c p .state) (inv .agrees s c p .state) (here .0) k)

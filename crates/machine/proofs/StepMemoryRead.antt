@@ -86,31 +86,42 @@ no-dirty-copy g inv s j h m c w di at = go (cases-eq c r) (cases-eq w (j .way))
   where
     r : ℕ
     r = j .requestor
+
     ok : GoodJob (g .geometry) s (g .entry s) j
     ok = rw h at (inv .jobs s)
+
     src : (j .upgrade ≡ false) × ((c w : ℕ) → (c ≡ j .requestor → ⊥) → held (g .entry s c w .state) ≡ true → g .entry s c w .block ≡ j .block
         → g .entry s c w .state ≡ S)
     src = rw m at (ok .source)
+
     hd : held (g .mailbox s c .known w .state) ≡ true
     hd = known-held g inv s c w (dirty-held (g .way s c w .state) di)
+
     bl : g .mailbox s c .known w .block ≡ j .block
     bl = inv .agrees s c w .block ∙ at
+
     same : (c ≡ r → w ≡ j .way → ⊥) → g .entry s c w ≡ g .mailbox s c .known w
     same n = asked-same j (role j c) c (g .entry s c) (g .mailbox s c) m refl (rw h at (inv .mailboxes s c)) w n
+
     self : InRole (atStage Asked j) r (g .entry s r) (g .mailbox s r) Requestor
     self = requestor-at g inv s j Asked h
+
     en : (entryIn (j .next) (j .block) .state ≡ j .next) × (entryIn (j .next) (j .block) .block ≡ j .block)
     en = held-entry (j .next) (j .block) (ok .gets)
+
     other : (c ≡ r → ⊥) → ⊥
     other n =
         let i = same (λ p _. n p) in
         let shared : g .mailbox s c .known w .state ≡ S = sym (ap (λ z. z .state) i) ∙ src .1 c w n (rw i hd) (rw i bl) in
         surely-clean-is (g .mailbox s c .known w .state) (g .way s c w .state) (inv .agrees s c w .state) (rw shared refl) di
+
     own : c ≡ r → w ≡ j .way → ⊥
     own p i = false≢true (rw (rw (src .0) at (self .2 .0)) at (rw (p, i) at hd))
+
     beside : c ≡ r → (w ≡ j .way → ⊥) → ⊥
     beside p n = let i = same (λ _ e. n e) in
         inv .entriesApart s c w r (j .way) (λ _ e. n e) (rw i hd) (rw (self .0, en .0) (ok .gets)) (rw (i, self .0, en .1) bl) .0 p
+
     go : (c ≡ r) ⊎ (c ≡ r → ⊥) → (w ≡ j .way) ⊎ (w ≡ j .way → ⊥) → ⊥
     go (inl p) (inl i) = own p i
     go (inl p) (inr n) = beside p n
@@ -120,10 +131,15 @@ no-dirty-copy g inv s j h m c w di at = go (cases-eq c r) (cases-eq w (j .way))
 -- the set is at Sent, the words are in the mail, and nothing is on its way at the memory
 abbrev pub afterRead : Ghost → ℕ → Job → Words → Ghost
 afterRead g s j ws = record {
-  geometry = g .geometry; entry = g .entry; way = g .way; waiter = g .waiter; progress = update (g .progress) s (Some (atStage Sent j));
+  geometry = g .geometry;
+  entry = g .entry;
+  way = g .way;
+  waiter = g .waiter;
+  progress = update (g .progress) s (Some (atStage Sent j));
   mailbox = update₂ (g .mailbox) s (j .requestor) (sentMailbox j (g .mailbox s (j .requestor)) ws Directory);
   atMemory = update (g .atMemory) (j .block)
-      (record { memory = g .atMemory (j .block) .memory; pending = Idle; latest = g .atMemory (j .block) .latest }) }
+      (record { memory = g .atMemory (j .block) .memory; pending = Idle; latest = g .atMemory (j .block) .latest });
+}
 
 pub memory-read-keeps : (g : Ghost) → Invariant g → (s : ℕ) (j : Job) → g .progress s ≡ Some (atStage Asked j) → j .source ≡ Memory
     → Invariant (afterRead g s j (g .atMemory (j .block) .memory))
@@ -131,11 +147,15 @@ memory-read-keeps g inv s j h m = record {
   mailboxes = update-both (λ t z f. (c : ℕ) → GoodMailbox z c (g .entry t c) (f c)) (g .progress) (g .mailbox) s (Some now)
       (update (g .mailbox s) r y)
       (update-each (λ c x. InRole now c (g .entry s c) x (role j c)) (g .mailbox s) r y
-        (rw (requestor-role j) (sent-self (requestor-at g inv s j Asked h)))
-        (λ c n. sent-other j (role j c) c (g .entry s c) (g .mailbox s c) m refl n (rw h at (inv .mailboxes s c))))
+      (rw (requestor-role j) (sent-self (requestor-at g inv s j Asked h)))
+      (λ c n. sent-other j (role j c) c (g .entry s c) (g .mailbox s c) m refl n (rw h at (inv .mailboxes s c))))
       (λ t _. inv .mailboxes t);
   jobs = update-each (λ t z. GoodProgress (g .geometry) t (g .entry t) z) (g .progress) s (Some now) ok (λ t _. inv .jobs t);
-  entriesApart = inv .entriesApart; entriesHome = inv .entriesHome; blanks = inv .blanks; asks = inv .asks; ranges = inv .ranges;
+  entriesApart = inv .entriesApart;
+  entriesHome = inv .entriesHome;
+  blanks = inv .blanks;
+  asks = inv .asks;
+  ranges = inv .ranges;
   copiesApart = copies-apart-after g inv s r y weak;
   copiesHome = copies-home-after g inv s r y weak;
   places = places-after g inv s r y weak;
@@ -147,31 +167,44 @@ memory-read-keeps g inv s j h m = record {
   copies = λ t c w q. inv .copies t c w q ∙ sym (same (g .way t c w .block));
   mails = update₂-each (λ t c z. GoodMail (update (g .atMemory) (j .block) k) (z .mail)) (g .mailbox) s r y
       (λ c b w st ws sender q. let e : g .atMemory (j .block) .memory ≡ ws = cc in let i : j .block ≡ b = cc in sym e ∙ clean
-        ∙ ap (λ n. g .atMemory n .latest) i ∙ sym (same b))
+      ∙ ap (λ n. g .atMemory n .latest) i ∙ sym (same b))
       (λ t c _ d b w st ws sender q. inv .mails t c d b w st ws sender q ∙ sym (same b));
-  newest = newest-after g inv s (j .block) now k (ok .here) (λ i _. no-dirty-sent i) (inl clean) }
+  newest = newest-after g inv s (j .block) now k (ok .here) (λ i _. no-dirty-sent i) (inl clean);
+}
   where
     r : ℕ
     r = j .requestor
+
     now : Progress
     now = atStage Sent j
+
     y : Mailbox
     y = sentMailbox j (g .mailbox s r) (g .atMemory (j .block) .memory) Directory
+
     k : BlockAtMemory
     k = record { memory = g .atMemory (j .block) .memory; pending = Idle; latest = g .atMemory (j .block) .latest }
+
     ok : GoodJob (g .geometry) s (g .entry s) j
     ok = rw h at (inv .jobs s)
+
     weak : (w : ℕ) → Weaker (y .known w) (g .mailbox s r .known w)
     weak w = weaker-same (g .mailbox s r .known w)
+
     same : (i : ℕ) → update (g .atMemory) (j .block) k i .latest ≡ g .atMemory i .latest
     same = latest-same (g .atMemory) (j .block) k refl
+
     no-dirty-sent : (i : ℕ) → DirtyOnTheWay (g .progress s) i → ⊥
     no-dirty-sent i = rw h (not-sent j Asked i (λ e. grind arith))
+
     reads : g .atMemory (j .block) .pending ≡ Reading (j .requestor) (j .way) (j .next)
     reads = rw m at (rw (ok .here, h) at (inv .pendings (j .block)) .0 refl)
+
     sent-self : InRole (atStage Asked j) r (g .entry s r) (g .mailbox s r) Requestor → InRole now r (g .entry s r) y Requestor
     sent-self p = (p .0, p .1, (p .2 .0, record { words = g .atMemory (j .block) .memory; sender = Directory; out = refl }))
+
     clean : g .atMemory (j .block) .memory ≡ g .atMemory (j .block) .latest
-    clean = elim (rw (ok .here) at (inv .newest (j .block)))
-        [ inl q ↦ rw reads at q | inr q ↦ elim q
-          [ inl u ↦ absurd (no-dirty-copy g inv s j h m (u .cache) (u .way) (u .state) (u .block)) | inr u ↦ absurd (no-dirty-sent (j .block) u) ] ]
+    clean = elim (rw (ok .here) at (inv .newest (j .block))) [
+      | inl q ↦ rw reads at q
+      | inr q ↦ elim q
+          [ inl u ↦ absurd (no-dirty-copy g inv s j h m (u .cache) (u .way) (u .state) (u .block)) | inr u ↦ absurd (no-dirty-sent (j .block) u) ]
+    ]

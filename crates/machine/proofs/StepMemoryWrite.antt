@@ -19,15 +19,25 @@ pub block-keeps : (g : Ghost) → Invariant g → (b : ℕ) (k : BlockAtMemory) 
     → newestAt (k .pending) (k .memory) ≡ newestAt (g .atMemory b .pending) (g .atMemory b .memory)
     → GoodPending (g .progress (setOf (g .geometry) b)) b (k .pending) → PendingInRange (g .geometry) b (k .pending) → Invariant (setBlock g b k)
 block-keeps g inv b k cur new ok range = record {
-  mailboxes = inv .mailboxes; jobs = inv .jobs; entriesApart = inv .entriesApart; entriesHome = inv .entriesHome; blanks = inv .blanks;
-      waits = inv .waits; asks = inv .asks; ranges = inv .ranges;
-  copiesApart = inv .copiesApart; copiesHome = inv .copiesHome; places = inv .places; agrees = inv .agrees;
+  mailboxes = inv .mailboxes;
+  jobs = inv .jobs;
+  entriesApart = inv .entriesApart;
+  entriesHome = inv .entriesHome;
+  blanks = inv .blanks;
+  waits = inv .waits;
+  asks = inv .asks;
+  ranges = inv .ranges;
+  copiesApart = inv .copiesApart;
+  copiesHome = inv .copiesHome;
+  places = inv .places;
+  agrees = inv .agrees;
   pendings = update-each (λ i z. GoodPending (g .progress (setOf (g .geometry) i)) i (z .pending)) (g .atMemory) b k ok (λ i _. inv .pendings i);
   pendingRanges = pending-ranges-after g inv b k range;
   copies = λ s c w h. inv .copies s c w h ∙ sym (same (g .way s c w .block));
   mails = λ s c d i w st ws sender e. inv .mails s c d i w st ws sender e ∙ sym (same i);
   newest = update-each (λ i z. Newest (g .way (setOf (g .geometry) i)) (g .progress (setOf (g .geometry) i)) i z) (g .atMemory) b k
-      (elim (inv .newest b) [ inl q ↦ inl (new ∙ q ∙ sym cur) | inr q ↦ inr q ]) (λ i _. inv .newest i) }
+      (elim (inv .newest b) [ inl q ↦ inl (new ∙ q ∙ sym cur) | inr q ↦ inr q ]) (λ i _. inv .newest i);
+}
   where
     same : (i : ℕ) → update (g .atMemory) b k i .latest ≡ g .atMemory i .latest
     same = latest-same (g .atMemory) b k cur

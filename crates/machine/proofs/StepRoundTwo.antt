@@ -56,10 +56,15 @@ newest-read j (Owner o p shown keeps writeback) ws = refl
 -- the set is at Asked
 abbrev pub afterBegin : Ghost → ℕ → Job → Ghost
 afterBegin g s j = record {
-  geometry = g .geometry; entry = g .entry; way = g .way; waiter = g .waiter; progress = update (g .progress) s (Some (atStage Asked j));
+  geometry = g .geometry;
+  entry = g .entry;
+  way = g .way;
+  waiter = g .waiter;
+  progress = update (g .progress) s (Some (atStage Asked j));
   mailbox = update (g .mailbox) s (λ c. askedMailbox j c (g .mailbox s c));
   atMemory = update (g .atMemory) (j .block)
-      (record { memory = g .atMemory (j .block) .memory; pending = readFor j (j .source); latest = g .atMemory (j .block) .latest }) }
+      (record { memory = g .atMemory (j .block) .memory; pending = readFor j (j .source); latest = g .atMemory (j .block) .latest });
+}
 
 -- once all answers of round one are in
 pub round-two-keeps : (g : Ghost) → Invariant g → (s : ℕ) (j : Job) → g .progress s ≡ Some (atStage Clearing j)
@@ -68,7 +73,11 @@ round-two-keeps g inv s j h quiet = record {
   mailboxes = update-both (λ t z f. (c : ℕ) → GoodMailbox z c (g .entry t c) (f c)) (g .progress) (g .mailbox) s (Some now) f
       (λ c. asked-at j (role j c) c (g .entry s c) (g .mailbox s c) (quiet c) (rw h at (inv .mailboxes s c))) (λ t _. inv .mailboxes t);
   jobs = update-each (λ t z. GoodProgress (g .geometry) t (g .entry t) z) (g .progress) s (Some now) ok (λ t _. inv .jobs t);
-  entriesApart = inv .entriesApart; entriesHome = inv .entriesHome; blanks = inv .blanks; asks = inv .asks; ranges = inv .ranges;
+  entriesApart = inv .entriesApart;
+  entriesHome = inv .entriesHome;
+  blanks = inv .blanks;
+  asks = inv .asks;
+  ranges = inv .ranges;
   copiesApart = update-each (λ t z. AllApart (λ c. z c .known)) (g .mailbox) s f (inv .copiesApart s) (λ t _. inv .copiesApart t);
   copiesHome = update-each (λ t z. (c w : ℕ) → AtHome (g .geometry) t c w (z c .known w)) (g .mailbox) s f (inv .copiesHome s)
       (λ t _. inv .copiesHome t);
@@ -83,22 +92,30 @@ round-two-keeps g inv s j h quiet = record {
   mails = update-each (λ t z. (c : ℕ) → GoodMail (update (g .atMemory) (j .block) k) (z c .mail)) (g .mailbox) s f
       (λ c d b w st ws sender q. absurd (no-data-asked j c (role j c) d b w st ws sender q))
       (λ t _ c d b w st ws sender q. inv .mails t c d b w st ws sender q ∙ sym (same b));
-  newest = newest-after g inv s (j .block) now k (ok .here) (λ i _. no-dirty-sent i) kept-newest }
+  newest = newest-after g inv s (j .block) now k (ok .here) (λ i _. no-dirty-sent i) kept-newest;
+}
   where
     now : Progress
     now = atStage Asked j
+
     f : ℕ → Mailbox
     f = λ c. askedMailbox j c (g .mailbox s c)
+
     k : BlockAtMemory
     k = record { memory = g .atMemory (j .block) .memory; pending = readFor j (j .source); latest = g .atMemory (j .block) .latest }
+
     ok : GoodJob (g .geometry) s (g .entry s) j
     ok = rw h at (inv .jobs s)
+
     same : (i : ℕ) → update (g .atMemory) (j .block) k i .latest ≡ g .atMemory i .latest
     same = latest-same (g .atMemory) (j .block) k refl
+
     no-dirty-sent : (i : ℕ) → DirtyOnTheWay (g .progress s) i → ⊥
     no-dirty-sent i = rw h (not-sent j Clearing i (λ e. grind arith))
+
     idle : g .atMemory (j .block) .pending ≡ Idle
     idle = rw (ok .here, h) at (inv .pendings (j .block)) .1 refl
+
     kept-newest : Newest (g .way s) (Some now) (j .block) k
     kept-newest = elim (newest-progress (g .way s) (g .progress s) (Some now)
         (j .block) (g .atMemory (j .block)) (no-dirty-sent (j .block)) (rw (ok .here) at (inv .newest (j .block))))

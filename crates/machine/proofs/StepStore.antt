@@ -38,6 +38,7 @@ before-not-writable j e b h = go (j .upgrade) b
     read-only-not M l k = false≢true l
     read-only-not O l k = false≢true k
     read-only-not F l k = false≢true k
+
     go : (t : Bool) → When t ((e .block ≡ j .block) × (readOnly (e .state) ≡ true)) (e ≡ noEntry) → ⊥
     go true q = read-only-not (e .state) (q .1) h
     go false q = false≢true (rw q at h)
@@ -50,31 +51,42 @@ no-data g inv s c w h t a d k x st ws sender m e = go (cases-eq c a) (cases-eq w
   where
     q : DataFacts (g .progress t) a (g .entry t a) (g .mailbox t a) d k x st
     q = data-facts (g .progress t) a (g .entry t a) (g .mailbox t a) d k x st ws sender m (inv .mailboxes t a)
+
     j : Job
     j = q .job
+
     ok : GoodJob (g .geometry) t (g .entry t) j
     ok = rw (q .progress) at (inv .jobs t)
+
     wr₀ : writable (g .mailbox s c .known w .state) ≡ true
     wr₀ = known-writable g inv s c w h
+
     bl₀ : g .mailbox s c .known w .block ≡ j .block
     bl₀ = inv .agrees s c w .block ∙ sym e ∙ q .block
+
     sets : s ≡ t
     sets = sym (inv .copiesHome s c w (writable-held (g .mailbox s c .known w .state) wr₀) .0) ∙ ap (setOf (g .geometry)) bl₀ ∙ ok .here
+
     wr : writable (g .mailbox t c .known w .state) ≡ true
     wr = rw sets at wr₀
+
     bl : g .mailbox t c .known w .block ≡ j .block
     bl = rw sets at bl₀
+
     en : (entryIn (j .next) (j .block) .state ≡ j .next) × (entryIn (j .next) (j .block) .block ≡ j .block)
     en = held-entry (j .next) (j .block) (ok .gets)
+
     apart : (c ≡ a → w ≡ j .way → ⊥) → ⊥
     apart n =
         let same : g .entry t c w ≡ g .mailbox t c .known w = sent-at j (role j c) c (g .entry t c) (g .mailbox t c)
-              (rw (q .progress) at (inv .mailboxes t c)) w (λ i. n (requestor-is j c i ∙ sym (requestor-is j a (q .isRequestor)))) in
+        (rw (q .progress) at (inv .mailboxes t c)) w (λ i. n (requestor-is j c i ∙ sym (requestor-is j a (q .isRequestor)))) in
         let beside = inv .entriesApart t c w a (j .way) n (rw same (writable-held (g .mailbox t c .known w .state) wr))
-              (rw (q .entry, en .0) (ok .gets)) (rw (same, q .entry, en .1) bl) in
+        (rw (q .entry, en .0) (ok .gets)) (rw (same, q .entry, en .1) bl) in
         writable-alone (g .mailbox t c .known w .state) (g .entry t a (j .way) .state) wr (rw same at (beside .1))
+
     own : c ≡ a → w ≡ j .way → ⊥
     own p i = before-not-writable j (g .mailbox t a .known (j .way)) (q .before) (rw (p, i) at wr)
+
     go : (c ≡ a) ⊎ (c ≡ a → ⊥) → (w ≡ j .way) ⊎ (w ≡ j .way → ⊥) → ⊥
     go (inl p) (inl i) = own p i
     go (inl p) (inr n) = apart (λ _ i. n i)
@@ -89,34 +101,52 @@ afterStore g s c w b ws = setBlock (setWay g s c w (record { state = M; block = 
 pub store-keeps : (g : Ghost) → Invariant g → (s c w b : ℕ) (ws : Words) → g .way s c w .block ≡ b → writable (g .way s c w .state) ≡ true
     → Invariant (afterStore g s c w b ws)
 store-keeps g inv s c w b ws e h = record {
-  mailboxes = inv .mailboxes; jobs = inv .jobs; entriesApart = inv .entriesApart; entriesHome = inv .entriesHome; blanks = inv .blanks;
-      waits = inv .waits; asks = inv .asks; ranges = inv .ranges;
-  copiesApart = inv .copiesApart; copiesHome = inv .copiesHome; places = inv .places;
+  mailboxes = inv .mailboxes;
+  jobs = inv .jobs;
+  entriesApart = inv .entriesApart;
+  entriesHome = inv .entriesHome;
+  blanks = inv .blanks;
+  waits = inv .waits;
+  asks = inv .asks;
+  ranges = inv .ranges;
+  copiesApart = inv .copiesApart;
+  copiesHome = inv .copiesHome;
+  places = inv .places;
   pendings = update-each (λ i z. GoodPending (g .progress (setOf (g .geometry) i)) i (z .pending)) (g .atMemory) b k (inv .pendings b)
       (λ i _. inv .pendings i);
   pendingRanges = pending-ranges-after g inv b k (inv .pendingRanges b);
   agrees = update₂-each (λ t d f. (x : ℕ) → Agrees (g .mailbox t d .known x) (f x)) (g .way) s c (update (g .way s c) w v)
       (update-each (λ x z. Agrees (g .mailbox s c .known x) z) (g .way s c) w v
-        (record { state = shows-store (g .mailbox s c .known w .state) (g .way s c w .state) (inv .agrees s c w .state) h;
-          block = inv .agrees s c w .block ∙ e })
-        (λ x _. inv .agrees s c x))
+      (record {
+        state = shows-store (g .mailbox s c .known w .state) (g .way s c w .state) (inv .agrees s c w .state) h;
+        block = inv .agrees s c w .block ∙ e;
+      })
+      (λ x _. inv .agrees s c x))
       (λ t d _. inv .agrees t d);
   copies = copies-after g (update (g .atMemory) b k) s c w v (λ _. ap (λ z. z .latest) (sym (update-here (g .atMemory) b k)))
       (λ t d x n l. inv .copies t d x l ∙ sym (ap (λ z. z .latest) (update-there (g .atMemory) b k (g .way t d x .block)
-        (λ i. let r = sole-place g inv s c w t d x h l (e ∙ sym i) in r .1 (λ p q. n (r .0) (sym p) (sym q))))));
+      (λ i. let r = sole-place g inv s c w t d x h l (e ∙ sym i) in r .1 (λ p q. n (r .0) (sym p) (sym q))))));
   mails = λ t d a i x st us sender m. inv .mails t d a i x st us sender m
       ∙ sym (ap (λ z. z .latest) (update-there (g .atMemory) b k i (λ q. no-data g inv s c w h t d a i x st us sender m (q ∙ sym e))));
   newest = update-each (λ i z. Newest (update₃ (g .way) s c w v (setOf (g .geometry) i)) (g .progress (setOf (g .geometry) i)) i z) (g .atMemory) b k
-      (inr (inl (record { cache = c; way = w; state = rw (home, update₃-here (g .way) s c w v) refl;
-        block = rw (home, update₃-here (g .way) s c w v) refl })))
-      (λ i _. elim (inv .newest i)
-        [ inl q ↦ inl q
-          | inr q ↦ inr (elim q [ inl u ↦ inl (dirty-after (g .way) s c w v (λ _. (refl, sym e)) (setOf (g .geometry) i) i u) | inr u ↦ inr u ]) ]) }
+      (inr (inl (record {
+        cache = c;
+        way = w;
+        state = rw (home, update₃-here (g .way) s c w v) refl;
+        block = rw (home, update₃-here (g .way) s c w v) refl;
+      })))
+      (λ i _. elim (inv .newest i) [
+        | inl q ↦ inl q
+        | inr q ↦ inr (elim q [ inl u ↦ inl (dirty-after (g .way) s c w v (λ _. (refl, sym e)) (setOf (g .geometry) i) i u) | inr u ↦ inr u ])
+      ]);
+}
   where
     v : Way
     v = record { state = M; block = b; words = ws }
+
     k : BlockAtMemory
     k = record { memory = g .atMemory b .memory; pending = g .atMemory b .pending; latest = ws }
+
     home : setOf (g .geometry) b ≡ s
     home = ap (setOf (g .geometry)) (sym (inv .agrees s c w .block ∙ e))
         ∙ inv .copiesHome s c w (writable-held (g .mailbox s c .known w .state) (known-writable g inv s c w h)) .0

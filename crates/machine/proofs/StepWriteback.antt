@@ -43,8 +43,18 @@ writeback-at : (j : Job) (s : Stage) (a : Role) (c : ℕ) (e : ℕ → Entry) (x
     → role j c ≡ a → InRole (atStage s j) c e x a → WritebackFacts (Some (atStage s j)) c e x b p
 writeback-at j Evicting Requestor c e x d b p m i ok = let l = ok .2 in let q : l .block ≡ b = cc (m, l .out) in
     let pw : p ≡ j .way = cc (m, l .out) in
-    record { job = j; progress = refl; isRequestor = i; way = pw; other = rw q at (l .other); block = rw pw (l .shown ∙ q);
-      heldThere = rw pw (may-be-dirty-held (x .known (j .way) .state) (l .state)); noUpgrade = l .noUpgrade; entry = ok .0; rest = ok .1 }
+    record {
+      job = j;
+      progress = refl;
+      isRequestor = i;
+      way = pw;
+      other = rw q at (l .other);
+      block = rw pw (l .shown ∙ q);
+      heldThere = rw pw (may-be-dirty-held (x .known (j .way) .state) (l .state));
+      noUpgrade = l .noUpgrade;
+      entry = ok .0;
+      rest = ok .1;
+    }
 writeback-at j Clearing Requestor c e x d b p m i ok = grind arith
 writeback-at j Asked Requestor c e x d b p m i ok = grind arith
 writeback-at j Sent Requestor c e x d b p m i ok = grind arith
@@ -84,11 +94,18 @@ coming-no-read false ws = refl
 -- the set is at Clearing
 abbrev pub afterWriteback : Ghost → ℕ → Job → ℕ → ℕ → Response → Ghost
 afterWriteback g s j b p r = record {
-  geometry = g .geometry; entry = g .entry; way = update₃ (g .way) s (j .requestor) p noWay; waiter = g .waiter;
+  geometry = g .geometry;
+  entry = g .entry;
+  way = update₃ (g .way) s (j .requestor) p noWay;
+  waiter = g .waiter;
   mailbox = update₂ (g .mailbox) s (j .requestor) (droppedMailbox (g .mailbox s (j .requestor)) p r);
   progress = update (g .progress) s (Some (atStage Clearing j));
-  atMemory = update (g .atMemory) b (record { memory = g .atMemory b .memory; latest = g .atMemory b .latest;
-      pending = comingIf (dirty (g .way s (j .requestor) p .state)) (g .way s (j .requestor) p .words) }) }
+  atMemory = update (g .atMemory) b (record {
+    memory = g .atMemory b .memory;
+    latest = g .atMemory b .latest;
+    pending = comingIf (dirty (g .way s (j .requestor) p .state)) (g .way s (j .requestor) p .words);
+  });
+}
 
 -- with what the facts above give
 pub writeback-keeps : (g : Ghost) → Invariant g → (s b : ℕ) (r : Response) (j : Job) → g .progress s ≡ Some (atStage Evicting j)
@@ -98,10 +115,14 @@ writeback-keeps g inv s b r j h other bl hd up = record {
   mailboxes = update-both
       (λ t z f. (c : ℕ) → GoodMailbox z c (g .entry t c) (f c)) (g .progress) (g .mailbox) s (Some now) (update (g .mailbox s) c y)
       (update-each (λ d z. InRole now d (g .entry s d) z (role j d)) (g .mailbox s) c y
-        (rw (requestor-role j) (self (requestor-at g inv s j Evicting h)))
-        (λ d n. clearing-other j (role j d) d (g .entry s d) (g .mailbox s d) refl n (rw h at (inv .mailboxes s d)))) (λ t _. inv .mailboxes t);
+      (rw (requestor-role j) (self (requestor-at g inv s j Evicting h)))
+      (λ d n. clearing-other j (role j d) d (g .entry s d) (g .mailbox s d) refl n (rw h at (inv .mailboxes s d)))) (λ t _. inv .mailboxes t);
   jobs = update-each (λ t z. GoodProgress (g .geometry) t (g .entry t) z) (g .progress) s (Some now) (rw h at (inv .jobs s)) (λ t _. inv .jobs t);
-  entriesApart = inv .entriesApart; entriesHome = inv .entriesHome; blanks = inv .blanks; asks = inv .asks; ranges = inv .ranges;
+  entriesApart = inv .entriesApart;
+  entriesHome = inv .entriesHome;
+  blanks = inv .blanks;
+  asks = inv .asks;
+  ranges = inv .ranges;
   copiesApart = copies-apart-after g inv s c y weak;
   copiesHome = copies-home-after g inv s c y weak;
   places = places-after g inv s c y weak;
@@ -116,39 +137,58 @@ writeback-keeps g inv s b r j h other bl hd up = record {
       (λ t d w _ q. inv .copies t d w q ∙ sym (same (g .way t d w .block)));
   mails = update₂-each (λ t d z. GoodMail (update (g .atMemory) b k) (z .mail)) (g .mailbox) s c y (λ _ _ _ _ _ _ q. absurd (no-answer q))
       (λ t d _ a i w st ws sender q. inv .mails t d a i w st ws sender q ∙ sym (same i));
-  newest = newest-way-after g inv s b now k home (λ i _. no-dirty-sent i) c p noWay (λ _. at) (coming-newest (dirty (g .way s c p .state)) refl) }
+  newest = newest-way-after g inv s b now k home (λ i _. no-dirty-sent i) c p noWay (λ _. at) (coming-newest (dirty (g .way s c p .state)) refl);
+}
   where
     c : ℕ
     c = j .requestor
+
     p : ℕ
     p = j .way
+
     x : Mailbox
     x = g .mailbox s c
+
     y : Mailbox
     y = droppedMailbox x p r
+
     now : Progress
     now = atStage Clearing j
+
     k : BlockAtMemory
-    k = record { memory = g .atMemory b .memory; pending = comingIf (dirty (g .way s c p .state)) (g .way s c p .words);
-        latest = g .atMemory b .latest }
+    k = record {
+      memory = g .atMemory b .memory;
+      pending = comingIf (dirty (g .way s c p .state)) (g .way s c p .words);
+      latest = g .atMemory b .latest;
+    }
+
     home : setOf (g .geometry) b ≡ s
     home = ap (setOf (g .geometry)) (sym bl) ∙ inv .copiesHome s c p hd .0
+
     in-range : b < g .geometry .blocks
     in-range = subst (λ i. i < g .geometry .blocks) bl (inv .copiesHome s c p hd .3)
+
     weak : (w : ℕ) → Weaker (y .known w) (x .known w)
     weak = update-each (λ w o. Weaker o (x .known w)) (x .known) p noEntry (weaker-none (x .known p)) (λ w _. weaker-same (x .known w))
+
     same : (i : ℕ) → update (g .atMemory) b k i .latest ≡ g .atMemory i .latest
     same = latest-same (g .atMemory) b k refl
+
     self : InRole (atStage Evicting j) c (g .entry s c) x Requestor → InRole now c (g .entry s c) y Requestor
     self q = (q .0, (λ w n. q .1 w n ∙ sym (update-there (x .known) p noEntry w n)), inl (rw up (update-here (x .known) p noEntry), inr (r, refl)))
+
     no-dirty-sent : (i : ℕ) → DirtyOnTheWay (g .progress s) i → ⊥
     no-dirty-sent i = rw h (not-sent j Evicting i (λ e. grind arith))
+
     at : g .way s c p .block ≡ b
     at = sym (inv .agrees s c p .block) ∙ bl
+
     moved : (i : ℕ) → setOf (g .geometry) i ≡ s → Newest (g .way s) (Some now) i (g .atMemory i)
     moved i q = newest-progress (g .way s) (g .progress s) (Some now) i (g .atMemory i) (no-dirty-sent i) (rw q at (inv .newest i))
+
     idle : g .atMemory b .pending ≡ Idle
     idle = rw (home, h) at (inv .pendings b)
+
     coming-newest : (t : Bool) → dirty (g .way s c p .state) ≡ t → Newest (update₃ (g .way) s c p noWay s)
         (Some now) b (record { memory = g .atMemory b .memory; pending = comingIf t (g .way s c p .words); latest = g .atMemory b .latest })
     coming-newest true i = inl (inv .copies s c p (dirty-held (g .way s c p .state) i) ∙ ap (λ n. g .atMemory n .latest) at)

@@ -45,8 +45,17 @@ transfer-at j Evicting (Giver q shown ks wb) c e x d b w r place keeps next writ
 transfer-at j Clearing (Giver q shown ks wb) c e x d b w r place keeps next writeback m i ok = grind arith
 transfer-at j Asked (Giver q shown ks wb) c e x d b w r place keeps next writeback m i ok =
     let o = ok .2 .1 in let wq : q ≡ w = cc in let kq : ks ≡ keeps = cc in let bq : wb ≡ writeback = cc in
-    record { job = j; shown = shown; progress = refl; source = giver-source j c q shown ks wb i ∙ rw (wq, kq, bq) refl; block = cc; requestor = cc;
-      way = cc; gets = cc; known = rw (← wq) (ok .2 .0) }
+    record {
+      job = j;
+      shown = shown;
+      progress = refl;
+      source = giver-source j c q shown ks wb i ∙ rw (wq, kq, bq) refl;
+      block = cc;
+      requestor = cc;
+      way = cc;
+      gets = cc;
+      known = rw (← wq) (ok .2 .0);
+    }
 transfer-at j Sent (Giver q shown ks wb) c e x d b w r place keeps next writeback m i ok = grind arith
 transfer-at j Filled (Giver q shown ks wb) c e x d b w r place keeps next writeback m i ok = grind arith
 transfer-at j Evicting Bystander c e x d b w r place keeps next writeback m i ok = grind arith

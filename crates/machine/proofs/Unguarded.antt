@@ -24,14 +24,38 @@ use Rattle.machine.proofs.Rooms.{one-more-is}
 -- ---- one table changed
 
 abbrev servingOf : Machine → (ℕ → Option Transaction) → Machine
-servingOf m f = record { geometry = m .geometry; rows = m .rows; way = m .way; entry = m .entry; kept = m .kept; turn = m .turn;
-    serving = f; count = m .count; memory = m .memory;
-    requests = m .requests; commands = m .commands; responses = m .responses; memoryCommands = m .memoryCommands }
+servingOf m f = record {
+  geometry = m .geometry;
+  rows = m .rows;
+  way = m .way;
+  entry = m .entry;
+  kept = m .kept;
+  turn = m .turn;
+  serving = f;
+  count = m .count;
+  memory = m .memory;
+  requests = m .requests;
+  commands = m .commands;
+  responses = m .responses;
+  memoryCommands = m .memoryCommands;
+}
 
 abbrev countOf : Machine → (ℕ → ℕ) → Machine
-countOf m f = record { geometry = m .geometry; rows = m .rows; way = m .way; entry = m .entry; kept = m .kept; turn = m .turn;
-    serving = m .serving; count = f; memory = m .memory;
-    requests = m .requests; commands = m .commands; responses = m .responses; memoryCommands = m .memoryCommands }
+countOf m f = record {
+  geometry = m .geometry;
+  rows = m .rows;
+  way = m .way;
+  entry = m .entry;
+  kept = m .kept;
+  turn = m .turn;
+  serving = m .serving;
+  count = f;
+  memory = m .memory;
+  requests = m .requests;
+  commands = m .commands;
+  responses = m .responses;
+  memoryCommands = m .memoryCommands;
+}
 
 abbrev pub setServing : Machine → ℕ → Option Transaction → Machine
 setServing m s v = servingOf m (update (m .serving) s v)
@@ -70,15 +94,17 @@ module _ (m : Machine) (j : Job) (low : home m (j .block) < 16) (small : m .coun
   ask-is Memory =
       count-is (askMemory m (Read (j .block) (j .requestor) (j .way) (j .next))) (home m (j .block)) (oneMore (m .count (home m (j .block)))) low
       ∙ ap (setCount (askMemory m (Read (j .block) (j .requestor) (j .way) (j .next))) (home m (j .block)))
-          (one-more-is (m .count (home m (j .block))) small)
+      (one-more-is (m .count (home m (j .block))) small)
   ask-is OwnCopy = refl
   ask-is (Owner o p shown keeps writeback) =
       count-is sent (home m (j .block)) (cond writeback (oneMore n) n) low ∙ ap (setCount sent (home m (j .block))) (both writeback)
     where
       n : ℕ
       n = m .count (home m (j .block))
+
       sent : Machine
       sent = command m (Transfer o (j .block) p (j .requestor) (j .way) keeps (j .next) writeback)
+
       both : (t : Bool) → cond t (oneMore n) n ≡ n + cond {A = ℕ} t 1 0
       both true = one-more-is n small
       both false = omega arith
@@ -99,18 +125,19 @@ abbrev pub enter : Machine → Job → ℕ → Machine
 enter m j n =
     setCount
     (setServing (setEntries m (home m (j .block)) (settle j (m .entry (home m (j .block))))) (home m (j .block))
-        (Some (record { job = j; round = One n })))
+    (Some (record { job = j; round = One n })))
     (home m (j .block)) (1 + n)
 
 pub record-is : (m : Machine) (j : Job) (n : ℕ) → home m (j .block) < 16 → j .requestor < 8 → j .way < 4 → OwnerInRange (j .source)
     → recordJob m j n ≡ enter m j n
 record-is m j n low p q r =
     ap (λ (f : ℕ → ℕ → ℕ → Entry). withCount (withServing (withEntries m f) s now) s (1 + n))
-      (put-is 16 (m .entry) s (settled j (m .entry s)) low ∙ ap (update (m .entry) s) (settled-is j (m .entry s) p q r))
+    (put-is 16 (m .entry) s (settled j (m .entry s)) low ∙ ap (update (m .entry) s) (settled-is j (m .entry s) p q r))
     ∙ ap (λ (k : Machine). withCount k s (1 + n)) (serving-is (setEntries m s (settle j (m .entry s))) s now low)
     ∙ count-is (setServing (setEntries m s (settle j (m .entry s))) s now) s (1 + n) low
   where
     s : ℕ
     s = home m (j .block)
+
     now : Option Transaction
     now = Some (record { job = j; round = One n })
