@@ -1,4 +1,6 @@
 // What happens at a cache: its orders, and the commands that arrive there.
+#![tactic(auto)]
+
 pub mod commands;
 mod lookup;
 pub mod orders;

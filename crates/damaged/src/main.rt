@@ -1,4 +1,6 @@
 // Lists damaged sheets, and prints one line of each listing.
+#![tactic(auto)]
+
 ghost use Rattle.std.specs.Prelude.{◌≡◌, ◌<◌, IfOk, string_bytes};
 ghost use Rattle.listing.specs.Listings.{listing_of};
 

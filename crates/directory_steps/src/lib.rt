@@ -1,4 +1,6 @@
 // What happens at the directory and at the memory: requests and responses that arrive, and the memory's turns.
+#![tactic(auto)]
+
 mod counts;
 pub mod memory_turns;
 pub mod requests;

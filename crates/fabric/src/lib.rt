@@ -1,4 +1,6 @@
 // The fabric: a directory, caches, four channels and a memory, generic over protocol, channels and memory.
+#![tactic(auto)]
+
 pub mod build;
 mod lookup;
 pub mod orders;

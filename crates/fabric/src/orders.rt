@@ -80,7 +80,7 @@ impl<
 
     // The way in which a cache holds a block.
     fn holding_way(&self, cache: u8, block: u16) -> Option<u8>
-        ensures { result ≡ holding_way (view P.Protocol.row Q.Channel.waiting C.Channel.waiting R.Channel.waiting D.Channel.waiting M-as-Memory.blocks self.now) cache block }
+        ensures { result ≡ holding_way (view P.Protocol.row Q.Channel.waiting C.Channel.waiting R.Channel.waiting D.Channel.waiting M.Memory.blocks self.now) cache block }
     {
         let set = self.geometry.set_of(block);
         lowest_way(
@@ -95,8 +95,8 @@ impl<
     // The cache keeps the order and waits, and a request goes out that names the way.
     fn ask_for(&mut self, cache: u8, asked: Order, way: u8) -> Answer
         requires { length (Q.Channel.waiting self.old.requests) < 128 }
-        ensures says { said (Ok result) ≡ (ask_for (view P.Protocol.row Q.Channel.waiting C.Channel.waiting R.Channel.waiting D.Channel.waiting M-as-Memory.blocks self.old) cache asked way).says }
-        ensures after { view P.Protocol.row Q.Channel.waiting C.Channel.waiting R.Channel.waiting D.Channel.waiting M-as-Memory.blocks self.new ≡ (ask_for (view P.Protocol.row Q.Channel.waiting C.Channel.waiting R.Channel.waiting D.Channel.waiting M-as-Memory.blocks self.old) cache asked way).after }
+        ensures says { said (Ok result) ≡ (ask_for (view P.Protocol.row Q.Channel.waiting C.Channel.waiting R.Channel.waiting D.Channel.waiting M.Memory.blocks self.old) cache asked way).says }
+        ensures after { view P.Protocol.row Q.Channel.waiting C.Channel.waiting R.Channel.waiting D.Channel.waiting M.Memory.blocks self.new ≡ (ask_for (view P.Protocol.row Q.Channel.waiting C.Channel.waiting R.Channel.waiting D.Channel.waiting M.Memory.blocks self.old) cache asked way).after }
     {
         self.kept.put(None, cache, Some(asked));
         let _ = self.requests.add(Request {
@@ -111,8 +111,8 @@ impl<
     // A miss without a way that holds the block takes the lowest in I, else the one that the turn number names, which then steps.
     fn ask_for_new(&mut self, cache: u8, asked: Order, set: u8) -> Answer
         requires { length (Q.Channel.waiting self.old.requests) < 128 }
-        ensures says { said (Ok result) ≡ (ask_for_new (view P.Protocol.row Q.Channel.waiting C.Channel.waiting R.Channel.waiting D.Channel.waiting M-as-Memory.blocks self.old) cache asked set).says }
-        ensures after { view P.Protocol.row Q.Channel.waiting C.Channel.waiting R.Channel.waiting D.Channel.waiting M-as-Memory.blocks self.new ≡ (ask_for_new (view P.Protocol.row Q.Channel.waiting C.Channel.waiting R.Channel.waiting D.Channel.waiting M-as-Memory.blocks self.old) cache asked set).after }
+        ensures says { said (Ok result) ≡ (ask_for_new (view P.Protocol.row Q.Channel.waiting C.Channel.waiting R.Channel.waiting D.Channel.waiting M.Memory.blocks self.old) cache asked set).says }
+        ensures after { view P.Protocol.row Q.Channel.waiting C.Channel.waiting R.Channel.waiting D.Channel.waiting M.Memory.blocks self.new ≡ (ask_for_new (view P.Protocol.row Q.Channel.waiting C.Channel.waiting R.Channel.waiting D.Channel.waiting M.Memory.blocks self.old) cache asked set).after }
     {
         match lowest_way(&self.ways, self.geometry.ways(), set, cache, Wanted::Empty) {
             Some(way) => self.ask_for(cache, asked, way),
@@ -127,8 +127,8 @@ impl<
 
     // An order that misses, with the way that holds its block if there is one.
     fn miss(&mut self, cache: u8, asked: Order, at: Option<u8>) -> Result<Answer, Refusal>
-        ensures says { said result ≡ (miss_step (view P.Protocol.row Q.Channel.waiting C.Channel.waiting R.Channel.waiting D.Channel.waiting M-as-Memory.blocks self.old) cache asked at).says }
-        ensures after { view P.Protocol.row Q.Channel.waiting C.Channel.waiting R.Channel.waiting D.Channel.waiting M-as-Memory.blocks self.new ≡ (miss_step (view P.Protocol.row Q.Channel.waiting C.Channel.waiting R.Channel.waiting D.Channel.waiting M-as-Memory.blocks self.old) cache asked at).after }
+        ensures says { said result ≡ (miss_step (view P.Protocol.row Q.Channel.waiting C.Channel.waiting R.Channel.waiting D.Channel.waiting M.Memory.blocks self.old) cache asked at).says }
+        ensures after { view P.Protocol.row Q.Channel.waiting C.Channel.waiting R.Channel.waiting D.Channel.waiting M.Memory.blocks self.new ≡ (miss_step (view P.Protocol.row Q.Channel.waiting C.Channel.waiting R.Channel.waiting D.Channel.waiting M.Memory.blocks self.old) cache asked at).after }
     {
         if self.requests.len() >= 128 {
             return Err(Refusal::NoRoom);
@@ -144,8 +144,8 @@ impl<
 
     // An order of a cache that does not wait: a hit is finished, a miss waits.
     fn order_at(&mut self, cache: u8, asked: Order, at: Option<u8>) -> Result<Answer, Refusal>
-        ensures says { said result ≡ (order_at (view P.Protocol.row Q.Channel.waiting C.Channel.waiting R.Channel.waiting D.Channel.waiting M-as-Memory.blocks self.old) cache asked at).says }
-        ensures after { view P.Protocol.row Q.Channel.waiting C.Channel.waiting R.Channel.waiting D.Channel.waiting M-as-Memory.blocks self.new ≡ (order_at (view P.Protocol.row Q.Channel.waiting C.Channel.waiting R.Channel.waiting D.Channel.waiting M-as-Memory.blocks self.old) cache asked at).after }
+        ensures says { said result ≡ (order_at (view P.Protocol.row Q.Channel.waiting C.Channel.waiting R.Channel.waiting D.Channel.waiting M.Memory.blocks self.old) cache asked at).says }
+        ensures after { view P.Protocol.row Q.Channel.waiting C.Channel.waiting R.Channel.waiting D.Channel.waiting M.Memory.blocks self.new ≡ (order_at (view P.Protocol.row Q.Channel.waiting C.Channel.waiting R.Channel.waiting D.Channel.waiting M.Memory.blocks self.old) cache asked at).after }
     {
         match at {
             None => self.miss(cache, asked, None),
@@ -162,8 +162,8 @@ impl<
 
     // A load or a store by a cache.
     pub fn order(&mut self, cache: u8, asked: Order) -> Result<Answer, Refusal>
-        ensures says { said result ≡ (order_step (view P.Protocol.row Q.Channel.waiting C.Channel.waiting R.Channel.waiting D.Channel.waiting M-as-Memory.blocks self.old) cache asked).says }
-        ensures after { view P.Protocol.row Q.Channel.waiting C.Channel.waiting R.Channel.waiting D.Channel.waiting M-as-Memory.blocks self.new ≡ (order_step (view P.Protocol.row Q.Channel.waiting C.Channel.waiting R.Channel.waiting D.Channel.waiting M-as-Memory.blocks self.old) cache asked).after }
+        ensures says { said result ≡ (order_step (view P.Protocol.row Q.Channel.waiting C.Channel.waiting R.Channel.waiting D.Channel.waiting M.Memory.blocks self.old) cache asked).says }
+        ensures after { view P.Protocol.row Q.Channel.waiting C.Channel.waiting R.Channel.waiting D.Channel.waiting M.Memory.blocks self.new ≡ (order_step (view P.Protocol.row Q.Channel.waiting C.Channel.waiting R.Channel.waiting D.Channel.waiting M.Memory.blocks self.old) cache asked).after }
     {
         if cache >= self.geometry.caches() {
             return Err(Refusal::NoSuchCache);

@@ -1,4 +1,6 @@
 // Prints, in words, what the run sheet on standard input says.
+#![tactic(auto)]
+
 use listing::list::list_sheet;
 use sheet::sheets::UncheckedSheet;
 use std::io;

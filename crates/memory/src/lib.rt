@@ -1,4 +1,6 @@
 // The memory of the fabric: what a memory is, and two kinds of it.
+#![tactic(auto)]
+
 ghost use Rattle.std.specs.Prelude.{◌≡◌, ℕ, ◌≤◌};
 ghost use Rattle.bedrock.specs.declared.words.Words.{Words};
 ghost use Rattle.bedrock.specs.BlockWords.{no_words};

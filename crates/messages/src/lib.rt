@@ -1,4 +1,6 @@
 // The messages of the fabric: four families, one for each channel.
+#![tactic(auto)]
+
 pub mod command;
 pub mod memory_command;
 pub mod request;

@@ -1,5 +1,7 @@
 // Prints what each kind of channel shows, for every count of waiting messages from 0 to 6 and every pick from 0 to 255: a row of
 // 256 digits for each kind and count, each the number of the message shown, and a dot where none is.
+#![tactic(auto)]
+
 ghost use Rattle.bedrock.specs.declared.party.Party.{Party};
 
 use bedrock::party::{Party, Routed};

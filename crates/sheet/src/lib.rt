@@ -1,4 +1,6 @@
 // Run sheets: the head and the records of a sheet, how they lie in bytes, and the reader that draws them.
+#![tactic(auto)]
+
 pub mod head;
 pub mod kinds;
 mod parse;

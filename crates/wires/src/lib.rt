@@ -1,4 +1,6 @@
 // The wires of the fabric: what a channel is, and three kinds of it.
+#![tactic(auto)]
+
 pub mod channel;
 mod line;
 pub mod paired;

@@ -9,4 +9,4 @@ obey-requires g c =
     let shorter : length (g.C.Channel.waiting c.take.new.self) ≤ length waits =
     rw c.take.ensures.after (without_shorter waits (g.C.Channel.chosen c.args.parts.now.commands c.args.pick)) in
     room_for (length (g.R.Channel.waiting c.args.parts.now.responses)) (answers_to c.in-Some.command) (length waits) (length (g.C.Channel.waiting c.take.new.self))
-    (sends_on c.in-Some.command) c.has-room-for.result c.has-room-for.ensures c.if-not-has-room-for.false shorter
+    (sends_on c.in-Some.command) c.has_room_for.result c.has_room_for.ensures c.if-not-has_room_for.false shorter

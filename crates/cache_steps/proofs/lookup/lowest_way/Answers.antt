@@ -5,12 +5,12 @@ use Rattle.cache_steps.specs.Searches.{wants}
 use Rattle.directory.proofs.Searches.{lowest_on, lowest_found}
 use Rattle.cache_steps.proofs.lookup.lowest_way.Goals as goal
 
-pub returns-then-is-wanted : goal.returns-then-is-wanted
-returns-then-is-wanted c =
+pub returns-then-is_wanted : goal.returns-then-is_wanted
+returns-then-is_wanted c =
     let a = c.args in
     let test : ℕ → Bool = λ w. wants a.wanted (grid no_way a.ways.now.cells a.set a.cache w) in
     let got : c.get.result ≡ grid no_way a.ways.now.cells a.set a.cache c.loop-way.way = rw c.empty.ensures at c.get.ensures in
-    let passes : test c.loop-way.way ≡ true = sym (ap (wants a.wanted) got) ∙ sym c.is-wanted.ensures ∙ c.if-is-wanted.true in
+    let passes : test c.loop-way.way ≡ true = sym (ap (wants a.wanted) got) ∙ sym c.is_wanted.ensures ∙ c.if-is_wanted.true in
     sym (lowest_found test a.count c.loop-way.way (omega arith) c.loop-way.invariant passes)
 
 pub loop-way-preserved : goal.loop-way-preserved
@@ -18,5 +18,5 @@ loop-way-preserved c =
     let a = c.args in
     let test : ℕ → Bool = λ w. wants a.wanted (grid no_way a.ways.now.cells a.set a.cache w) in
     let got : c.get.result ≡ grid no_way a.ways.now.cells a.set a.cache c.loop-way.way = rw c.empty.ensures at c.get.ensures in
-    let fails : test c.loop-way.way ≡ false = sym (ap (wants a.wanted) got) ∙ sym c.is-wanted.ensures ∙ c.if-is-wanted.false in
+    let fails : test c.loop-way.way ≡ false = sym (ap (wants a.wanted) got) ∙ sym c.is_wanted.ensures ∙ c.if-is_wanted.false in
     lowest_on test c.loop-way.way c.loop-way.invariant fails

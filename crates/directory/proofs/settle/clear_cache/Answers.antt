@@ -17,7 +17,7 @@ pub loop-way-preserved : goal.loop-way-preserved
 loop-way-preserved c =
     let a = c.args in
     let l = c.loop-way in
-    way_cleared (grid no_entry a.entries.now.cells) (grid no_entry l.entries.cells) (grid no_entry c.clear-way.new.entries.cells) a.set a.block a.cache l.way c.requires (omega arith) l.invariant c.clear-way.ensures
+    way_cleared (grid no_entry a.entries.now.cells) (grid no_entry l.entries.cells) (grid no_entry c.clear_way.new.entries.cells) a.set a.block a.cache l.way c.requires (omega arith) l.invariant c.clear_way.ensures
 
 pub returns : goal.returns
 returns c =

@@ -17,7 +17,7 @@ pub loop-cache-preserved : goal.loop-cache-preserved
 loop-cache-preserved c =
     let a = c.args in
     let l = c.loop-cache in
-    cache_cleared (grid no_entry a.entries.now.cells) (grid no_entry l.entries.cells) (grid no_entry c.clear-cache.new.entries.cells) a.set a.block l.cache l.invariant c.clear-cache.ensures
+    cache_cleared (grid no_entry a.entries.now.cells) (grid no_entry l.entries.cells) (grid no_entry c.clear_cache.new.entries.cells) a.set a.block l.cache l.invariant c.clear_cache.ensures
 
 pub returns : goal.returns
 returns c =

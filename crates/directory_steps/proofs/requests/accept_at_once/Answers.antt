@@ -11,5 +11,5 @@ returns g c =
     let before : Machine = view g.P.Protocol.row g.Q.Channel.waiting g.C.Channel.waiting g.R.Channel.waiting g.D.Channel.waiting g.M.Memory.blocks c.args.parts.now in
     let job = c.args.job in
     let room : cond (from_memory job.source) (leb 128 (length before.memory_commands)) (leb 128 (length before.commands)) ≡ false =
-    sym c.has-room-for-two.ensures ∙ ap not c.if-not-has-room-for-two.false in
-    rw room (ap move_on (c.begin-two.ensures ∙ ap (λ (m : Machine). begin_two m job) (c.record-job.ensures ∙ ap (λ (l : List Request). record_job (with_requests before l) job 0) c.take.ensures.after)))
+    sym c.has_room_for_two.ensures ∙ ap not c.if-not-has_room_for_two.false in
+    rw room (ap move_on (c.begin_two.ensures ∙ ap (λ (m : Machine). begin_two m job) (c.record_job.ensures ∙ ap (λ (l : List Request). record_job (with_requests before l) job 0) c.take.ensures.after)))

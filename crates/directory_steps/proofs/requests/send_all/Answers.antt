@@ -2,7 +2,7 @@ use Rattle.std.proofs.Common.{◌<◌, length, sym, ap, ◌∙◌, arith}
 use Rattle.directory.specs.Batches.{sent}
 use Rattle.directory_steps.proofs.Sending.{nothing_there, sends_next, sends_all}
 use Rattle.directory_steps.proofs.requests.send_all.Goals as goal
-use Rattle.directory_steps.proofs.requests.send_all.Goals.{in-Some, in-default}
+use Rattle.directory_steps.proofs.requests.send_all.Goals.{in-Some, in_default}
 
 pub loop-index-preserved : goal.loop-index-preserved
 loop-index-preserved g c =
@@ -14,7 +14,7 @@ loop-index-preserved g c =
       | in-Some w ↦
           ap g.C.Channel.waiting w.channel-is
           ∙ (w.add.ensures.after ∙ sends_next ys xs zs c.loop-index.index w.in-Some.command c.loop-index.invariant inside c.requires (sym c.get.ensures ∙ w.in-Some.is))
-      | in-default w ↦ absurd (nothing_there xs c.loop-index.index inside (sym c.get.ensures ∙ w.in-default.is))
+      | in_default w ↦ absurd (nothing_there xs c.loop-index.index inside (sym c.get.ensures ∙ w.in_default.is))
     ]
 
 pub returns : goal.returns

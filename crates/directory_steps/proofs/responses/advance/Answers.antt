@@ -4,11 +4,11 @@ use Rattle.machine.specs.Machines.{Machine}
 use Rattle.machine.specs.Responses.{writes_on}
 use Rattle.directory_steps.proofs.responses.advance.Goals as goal
 
-pub one-fewer-requires : goal.one-fewer-requires
-one-fewer-requires g c =
-    let sent : length (g.D.Channel.waiting c.pass-on.new.parts.memory_commands) ≡ length (g.D.Channel.waiting c.args.parts.now.memory_commands) + 1 =
-    ap (λ (m : Machine). length m.memory_commands) c.pass-on.ensures ∙ length-append (g.D.Channel.waiting c.args.parts.now.memory_commands) (Write c.in-One-Writeback.block c.in-One-Writeback.words ∷ []) in
-    let same : length (g.C.Channel.waiting c.pass-on.new.parts.commands) ≡ length (g.C.Channel.waiting c.args.parts.now.commands) =
-    ap (λ (m : Machine). length m.commands) c.pass-on.ensures in
+pub one_fewer-requires : goal.one_fewer-requires
+one_fewer-requires g c =
+    let sent : length (g.D.Channel.waiting c.pass_on.new.parts.memory_commands) ≡ length (g.D.Channel.waiting c.args.parts.now.memory_commands) + 1 =
+    ap (λ (m : Machine). length m.memory_commands) c.pass_on.ensures ∙ length-append (g.D.Channel.waiting c.args.parts.now.memory_commands) (Write c.in-One-Writeback.block c.in-One-Writeback.words ∷ []) in
+    let same : length (g.C.Channel.waiting c.pass_on.new.parts.commands) ≡ length (g.C.Channel.waiting c.args.parts.now.commands) =
+    ap (λ (m : Machine). length m.commands) c.pass_on.ensures in
     let writes : writes_on c.args.response ≡ 1 = ap writes_on c.in-One-Writeback.is-1 in
     (c.in-One-Writeback.is-0, (omega (arith, c.requires.0), rw same c.requires.1))

@@ -6,7 +6,7 @@ use Rattle.listing.proofs.details.shown_text.Goals as goal
 
 pub loop-byte-preserved : goal.loop-byte-preserved
 loop-byte-preserved c =
-    c.in-ok-push-escaped.ensures
+    c.in_ok-push_escaped.ensures
     ∙ ap (λ l. l ++ escaped (get_or c.args.text.now c.loop-byte.byte-index 0)) c.loop-byte.invariant
     ∙ sym (shown_more c.args.text.now c.loop-byte.byte-index c.loop-byte-test.true)
 

@@ -12,7 +12,7 @@ loop-next-preserved c =
     let g = c.in-Ok.ensures.goes in (
       omega (arith, (drew_record _ _ _ a g).1, c.loop-next.invariant.0),
       listed_record (vec_items c.loop-next.out) _ _ _ c.loop-next.invariant.1 _ _ _ a g
-          (c.in-ok-extend-from-slice.ensures.items ∙ ap (λ l. vec_items c.loop-next.out ++ l) (c.as-slice.ensures.value ∙ c.in-ok-line.ensures)),
+          (c.in_ok-extend_from_slice-in-Some.ensures.items ∙ ap (λ l. vec_items c.loop-next.out ++ l) (c.as_slice.ensures.value ∙ c.in_ok-line-in-Some.ensures)),
     )
 
 pub returns-in-None : goal.returns-in-None
@@ -21,4 +21,4 @@ returns-in-None c = listed_all (vec_items c.loop-next.out) _ _ _ c.loop-next.inv
 pub returns-in-Err : goal.returns-in-Err
 returns-in-Err c =
     listed_refusal (vec_items c.loop-next.out) _ _ _ c.loop-next.invariant.1 _ _ c.in-Err.ensures.answers
-    (c.in-ok-extend-from-slice-2.ensures.items ∙ ap (λ l. vec_items c.loop-next.out ++ l) (c.as-bytes.ensures.value ∙ c.in-ok-line-2.ensures))
+    (c.in_ok-extend_from_slice-in-Err.ensures.items ∙ ap (λ l. vec_items c.loop-next.out ++ l) (c.as_bytes.ensures.value ∙ c.in_ok-line-in-Err.ensures))

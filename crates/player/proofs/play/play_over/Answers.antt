@@ -16,15 +16,15 @@ at_kind (Err y) items h l kind e IfOk a = tt
 
 pub returns-in-Unordered : goal.returns-in-Unordered
 returns-in-Unordered g c =
-    at_kind c.play-on.result vec_items c.args.head.now (reading_of (vec_items c.args.sheet.now.bytes)) _ c.in-Unordered.is c.play-on.ensures
+    at_kind c.play_on.result vec_items c.args.head.now (reading_of (vec_items c.args.sheet.now.bytes)) _ c.in-Unordered.is c.play_on.ensures
     (record { requests = λ x p. refl; commands = λ x p. refl; responses = λ x p. refl; memory_commands = λ x p. refl })
 
 pub returns-in-Paired : goal.returns-in-Paired
 returns-in-Paired g c =
-    at_kind c.play-on-in-Paired.result vec_items c.args.head.now (reading_of (vec_items c.args.sheet.now.bytes)) _ c.in-Paired.is c.play-on-in-Paired.ensures
+    at_kind c.play_on-in-Paired.result vec_items c.args.head.now (reading_of (vec_items c.args.sheet.now.bytes)) _ c.in-Paired.is c.play_on-in-Paired.ensures
     (record { requests = λ x p. refl; commands = λ x p. refl; responses = λ x p. refl; memory_commands = λ x p. refl })
 
 pub returns-in-SingleFile : goal.returns-in-SingleFile
 returns-in-SingleFile g c =
-    at_kind c.play-on-in-SingleFile.result vec_items c.args.head.now (reading_of (vec_items c.args.sheet.now.bytes)) _ c.in-SingleFile.is c.play-on-in-SingleFile.ensures
+    at_kind c.play_on-in-SingleFile.result vec_items c.args.head.now (reading_of (vec_items c.args.sheet.now.bytes)) _ c.in-SingleFile.is c.play_on-in-SingleFile.ensures
     (record { requests = λ x p. refl; commands = λ x p. refl; responses = λ x p. refl; memory_commands = λ x p. refl })

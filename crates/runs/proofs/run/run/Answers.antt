@@ -28,7 +28,7 @@ loop-call-preserved g c =
     let first : FabricCall = Order 0 (Load 0 0) in (
       record { call = arrives c.loop-call.fabric (get_or calls i first); says = a } ∷ events,
       follows_next shows arrives (shows c.build-fabric.result) calls i first events c.loop-call.fabric c.call.new.self a (omega arith) c.loop-call.invariant.1 c.call.ensures,
-      ap (λ (l : List Said). l ++ a ∷ []) c.loop-call.invariant.2 ∙ (sym (map-append said (vec_items c.loop-call.answers) (c.call.result ∷ [])) ∙ ap all_said (sym c.in-ok-push.ensures.items)),
+      ap (λ (l : List Said). l ++ a ∷ []) c.loop-call.invariant.2 ∙ (sym (map-append said (vec_items c.loop-call.answers) (c.call.result ∷ [])) ∙ ap all_said (sym c.in_ok-push.ensures.items)),
     )
 
 pub returns : goal.returns

@@ -5,5 +5,5 @@ use Rattle.sheet.proofs.parse.load.Goals as goal
 
 pub returns : goal.returns
 returns c =
-    let b : c.from-le-bytes-block.result ≡ field 1 2 c.args.fields.now = omega (arith, c.from-le-bytes-block.ensures) in
+    let b : c.from_le_bytes-block.result ≡ field 1 2 c.args.fields.now = omega (arith, c.from_le_bytes-block.ensures) in
     fixed_there c.args.fields.now 4 _ _ (omega (arith, leb-false, ltb-false)) (cc)

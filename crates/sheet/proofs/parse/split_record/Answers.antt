@@ -13,7 +13,7 @@ pub returns-in-68 : goal.returns-in-68
 returns-in-68 c = c.deliver.ensures ∙ at_letter c.args.bytes.now letter_d (omega (arith, leb-false, ltb-false)) (omega (arith, leb-false, ltb-false))
 
 pub returns-in-77 : goal.returns-in-77
-returns-in-77 c = c.memory-turn.ensures ∙ at_letter c.args.bytes.now letter_m (omega (arith, leb-false, ltb-false)) (omega (arith, leb-false, ltb-false))
+returns-in-77 c = c.memory_turn.ensures ∙ at_letter c.args.bytes.now letter_m (omega (arith, leb-false, ltb-false)) (omega (arith, leb-false, ltb-false))
 
 pub returns-in-67 : goal.returns-in-67
 returns-in-67 c = c.content.ensures ∙ at_letter c.args.bytes.now letter_c (omega (arith, leb-false, ltb-false)) (omega (arith, leb-false, ltb-false))

@@ -5,6 +5,6 @@ use Rattle.sheet.proofs.parse.store.Goals as goal
 
 pub returns : goal.returns
 returns c =
-    let b : c.from-le-bytes-block.result ≡ field 1 2 c.args.fields.now = omega (arith, c.from-le-bytes-block.ensures) in
-    let v : c.from-le-bytes-value.result ≡ field 4 8 c.args.fields.now = omega (arith, c.from-le-bytes-value.ensures) in
+    let b : c.from_le_bytes-block.result ≡ field 1 2 c.args.fields.now = omega (arith, c.from_le_bytes-block.ensures) in
+    let v : c.from_le_bytes-value.result ≡ field 4 8 c.args.fields.now = omega (arith, c.from_le_bytes-value.ensures) in
     fixed_there c.args.fields.now 12 _ _ (omega (arith, leb-false, ltb-false)) (cc)

@@ -7,4 +7,4 @@ pub returns : goal.returns
 unfolding pasted
 returns c =
     let k : (c.args.at + length c.args.bytes.now) - c.args.at ≡ length c.args.bytes.now = omega arith in
-    rw (k, c.copy-from-slice.ensures.after, drop-drop)
+    rw (k, c.copy_from_slice.ensures.after, drop-drop)

@@ -10,7 +10,7 @@ returns-in-Store c = record {
   fields = rw c.in-Store.is (omega arith, omega arith);
   bytes =
       in_two _ c.args.at _ _ _ _ _ (omega arith) c.paste-in-Store.ensures c.paste-in-Store-2.ensures
-      (ap (λ r. encode (item r)) c.in-Store.is ∙ rw (c.to-le-bytes-in-Store.ensures, c.to-le-bytes-in-Store-2.ensures, eight_bytes c.in-Store.value) refl);
+      (ap (λ r. encode (item r)) c.in-Store.is ∙ rw (c.to_le_bytes-in-Store.ensures, c.to_le_bytes-in-Store-2.ensures, eight_bytes c.in-Store.value) refl);
 }
 
 pub returns-in-Content : goal.returns-in-Content
@@ -18,7 +18,7 @@ returns-in-Content c = record {
   fields = rw c.in-Content.is (omega arith);
   bytes =
       in_two _ c.args.at _ _ _ _ _ (omega arith) c.paste-in-Content.ensures c.paste-in-Content-2.ensures
-      (ap (λ r. encode (item r)) c.in-Content.is ∙ rw c.to-le-bytes-in-Content.ensures refl);
+      (ap (λ r. encode (item r)) c.in-Content.is ∙ rw c.to_le_bytes-in-Content.ensures refl);
 }
 
 pub returns-in-Note : goal.returns-in-Note

@@ -9,14 +9,14 @@ use Rattle.directory.proofs.state.Directory.dismiss.Goals as goal
 pub loop-cache-init : goal.loop-cache-init
 loop-cache-init c = (c.requires, sym (append-nil (sent c.args.batch.now)))
 
-pub dismiss-one-requires : goal.dismiss-one-requires
-dismiss-one-requires c = let few = c.args.self.now.geometry.fewcaches in omega arith
+pub dismiss_one-requires : goal.dismiss_one-requires
+dismiss_one-requires c = let few = c.args.self.now.geometry.fewcaches in omega arith
 
 pub loop-cache-preserved : goal.loop-cache-preserved
 loop-cache-preserved c =
     let a = c.args in
     let l = c.loop-cache in
-    (omega arith, one_more (alone a.self.now) a.requestor a.block l.cache (sent a.batch.now) (sent l.batch) (sent c.dismiss-one.new.batch) l.invariant.1 c.dismiss-one.ensures.after)
+    (omega arith, one_more (alone a.self.now) a.requestor a.block l.cache (sent a.batch.now) (sent l.batch) (sent c.dismiss_one.new.batch) l.invariant.1 c.dismiss_one.ensures.after)
 
 pub returns : goal.returns
 returns c =

@@ -9,7 +9,7 @@ returns-then-owning c =
     let d = c.args.self.now in
     let b = c.args.block in
     let k = c.loop-cache.cache in
-    let passes : owns d b k ≡ true = sym (ap owning c.shown-state.ensures) ∙ sym c.owning.ensures ∙ c.if-owning.true in
+    let passes : owns d b k ≡ true = sym (ap owning c.shown_state.ensures) ∙ sym c.owning.ensures ∙ c.if-owning.true in
     sym (lowest_found (owns d b) d.geometry.caches k (omega arith) c.loop-cache.invariant passes)
 
 pub loop-cache-preserved : goal.loop-cache-preserved
@@ -17,7 +17,7 @@ loop-cache-preserved c =
     let d = c.args.self.now in
     let b = c.args.block in
     let k = c.loop-cache.cache in
-    let fails : owns d b k ≡ false = sym (ap owning c.shown-state.ensures) ∙ sym c.owning.ensures ∙ c.if-owning.false in
+    let fails : owns d b k ≡ false = sym (ap owning c.shown_state.ensures) ∙ sym c.owning.ensures ∙ c.if-owning.false in
     lowest_on (owns d b) k c.loop-cache.invariant fails
 
 pub returns : goal.returns

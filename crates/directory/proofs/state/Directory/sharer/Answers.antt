@@ -9,7 +9,7 @@ returns-then-same c =
     let d = c.args.self.now in
     let b = c.args.block in
     let k = c.loop-cache.cache in
-    let passes : shares d b k ≡ true = sym (ap sharing c.shown-state.ensures) ∙ sym c.same.ensures ∙ c.if-same.true in
+    let passes : shares d b k ≡ true = sym (ap sharing c.shown_state.ensures) ∙ sym c.same.ensures ∙ c.if-same.true in
     sym (lowest_found (shares d b) d.geometry.caches k (omega arith) c.loop-cache.invariant passes)
 
 pub loop-cache-preserved : goal.loop-cache-preserved
@@ -17,7 +17,7 @@ loop-cache-preserved c =
     let d = c.args.self.now in
     let b = c.args.block in
     let k = c.loop-cache.cache in
-    let fails : shares d b k ≡ false = sym (ap sharing c.shown-state.ensures) ∙ sym c.same.ensures ∙ c.if-same.false in
+    let fails : shares d b k ≡ false = sym (ap sharing c.shown_state.ensures) ∙ sym c.same.ensures ∙ c.if-same.false in
     lowest_on (shares d b) k c.loop-cache.invariant fails
 
 pub returns : goal.returns

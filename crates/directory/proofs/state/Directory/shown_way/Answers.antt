@@ -11,7 +11,7 @@ returns-then-shows c =
     let d = c.args.self.now in
     let b = c.args.block in
     let k = c.loop-way.way in
-    let got : c.entry.result ≡ (alone d).entry (home (alone d) b) c.args.cache k = rw c.set-of-set.ensures at c.entry.ensures in
+    let got : c.entry.result ≡ (alone d).entry (home (alone d) b) c.args.cache k = rw c.set_of-set.ensures at c.entry.ensures in
     let passes : showing d c.args.cache b k ≡ true = sym (ap (λ e. held e.state && eqb e.block b) got) ∙ sym c.shows.ensures ∙ c.if-shows.true in
     sym (lowest_found (showing d c.args.cache b) d.geometry.ways k (omega arith) c.loop-way.invariant passes)
 
@@ -20,7 +20,7 @@ loop-way-preserved c =
     let d = c.args.self.now in
     let b = c.args.block in
     let k = c.loop-way.way in
-    let got : c.entry.result ≡ (alone d).entry (home (alone d) b) c.args.cache k = rw c.set-of-set.ensures at c.entry.ensures in
+    let got : c.entry.result ≡ (alone d).entry (home (alone d) b) c.args.cache k = rw c.set_of-set.ensures at c.entry.ensures in
     let fails : showing d c.args.cache b k ≡ false = sym (ap (λ e. held e.state && eqb e.block b) got) ∙ sym c.shows.ensures ∙ c.if-shows.false in
     lowest_on (showing d c.args.cache b) k c.loop-way.invariant fails
 

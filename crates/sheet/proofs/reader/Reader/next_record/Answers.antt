@@ -5,8 +5,8 @@ use Rattle.sheet.specs.Reads.{left, answer_at, left_at}
 use Rattle.sheet.proofs.Fronts.{drawn_front, drawn_within, drawn_left}
 use Rattle.sheet.proofs.reader.Reader.next_record.Goals as goal
 
-pub overflow-sub-self : goal.overflow-sub-self
-overflow-sub-self c = drawn_within _ c.args.self.now.at _ _ c.args.self.now.inside c.in-Item.ensures
+pub overflow_sub-self : goal.overflow_sub-self
+overflow_sub-self c = drawn_within _ c.args.self.now.at _ _ c.args.self.now.inside c.in-Item.ensures
 
 pub returns-in-Item : goal.returns-in-Item
 returns-in-Item c =

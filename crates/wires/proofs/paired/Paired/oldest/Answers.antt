@@ -5,12 +5,12 @@ use Rattle.wires.specs.Picks.{same_pair}
 use Rattle.wires.proofs.Searches.{nth_within, first_hit, first_more, first_end}
 use Rattle.wires.proofs.paired.Paired.oldest.Goals as goal
 
-pub returns-then-same-pair : goal.returns-then-same-pair
-returns-then-same-pair g c =
+pub returns-then-same_pair : goal.returns-then-same_pair
+returns-then-same_pair g c =
     let t = same_pair g.T.Routed.from g.T.Routed.to c.args.message.now in
     let xs = waits c.args.self.now.line in
     let found : slice_get xs c.loop-other.index ≡ Some c.in-Some.other = sym c.in-Some.ensures in
-    let passes : t c.in-Some.other ≡ true = sym c.same-pair.ensures ∙ c.if-same-pair.true in
+    let passes : t c.in-Some.other ≡ true = sym c.same_pair.ensures ∙ c.if-same_pair.true in
     let hit = first_hit t xs c.loop-other.index c.in-Some.other found passes in
     omega arith
 
@@ -26,7 +26,7 @@ loop-other-preserved g c =
     let t = same_pair g.T.Routed.from g.T.Routed.to c.args.message.now in
     let xs = waits c.args.self.now.line in
     let found : slice_get xs c.loop-other.index ≡ Some c.in-Some.other = sym c.in-Some.ensures in
-    let fails : t c.in-Some.other ≡ false = sym c.same-pair.ensures ∙ c.if-same-pair.false in
+    let fails : t c.in-Some.other ≡ false = sym c.same_pair.ensures ∙ c.if-same_pair.false in
     let inside = nth_within xs c.loop-other.index c.in-Some.other found in
     let miss = first_more t xs c.loop-other.index c.in-Some.other found fails in
     (omega arith, omega arith)
@@ -34,5 +34,5 @@ loop-other-preserved g c =
 pub returns : goal.returns
 returns g c =
     let t = same_pair g.T.Routed.from g.T.Routed.to c.args.message.now in
-    let end = first_end t (waits c.args.self.now.line) c.loop-other.index (sym c.in-default.ensures) in
+    let end = first_end t (waits c.args.self.now.line) c.loop-other.index (sym c.in_default.ensures) in
     omega arith

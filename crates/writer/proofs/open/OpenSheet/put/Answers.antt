@@ -14,9 +14,9 @@ returns-in-Ok c =
     let x = item c.args.rec.now in
     let a : Ok c.in-Ok.end ≡ record_end s.end (length (vec_items s.buffer)) x =
     c.in-Ok.ensures ∙ ap (λ n. record_end s.end n x) (c.len.ensures ∙ s.buffer.ok.0) in
-    let b = with_items_is s.buffer c.write-record.new.out (omega arith) ∙ c.write-record.ensures.bytes ∙ ap (λ l. pasted l s.end (encode x)) c.as-mut-slice.ensures.value in
+    let b = with_items_is s.buffer c.write_record.new.out (omega arith) ∙ c.write_record.ensures.bytes ∙ ap (λ l. pasted l s.end (encode x)) c.as_mut_slice.ensures.value in
     record {
       answers = a;
       after = page_put (open_page s) _ x _ a b;
-      holds = λ h xs _ held. holds_more (open_page s) _ h xs x held (record_fits _ _ x _ a) (omega arith) c.write-record.ensures.fields b;
+      holds = λ h xs _ held. holds_more (open_page s) _ h xs x held (record_fits _ _ x _ a) (omega arith) c.write_record.ensures.fields b;
     }
