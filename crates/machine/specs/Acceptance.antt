@@ -4,7 +4,6 @@ use Rattle.std.specs.List.{slice_get}
 use Rattle.protocols.specs.declared.row.Row.{Row}
 use Rattle.protocols.specs.States.{held, may_be_dirty}
 use Rattle.protocols.specs.Rows.{write_row}
-use Rattle.messages.specs.declared.request.Access.{Access}
 use Rattle.messages.specs.declared.request.Request.{Request}
 use Rattle.messages.specs.declared.command.Command.{Command}
 use Rattle.messages.specs.declared.command.Command.TheVariants.{Invalidate, SetStateWriteback, Transfer, SetStateWakeup}

@@ -13,7 +13,7 @@ use Rattle.machine.specs.declared.holding.Entry.{Entry}
 use Rattle.machine.specs.declared.order.Order.{Order}
 use Rattle.machine.specs.declared.order.Order.TheVariants.{Load, Store}
 use Rattle.machine.specs.Machines.{Machine, new}
-use Rattle.machine.specs.Outcomes.{Said, moved_on, loaded, stored, refused}
+use Rattle.machine.specs.Outcomes.{moved_on, loaded, stored, refused}
 use Rattle.machine.specs.Runs.{Call, orders, delivers, turns, Event, run}
 
 -- ---- which order an event finishes (events are latest first)

@@ -1,5 +1,5 @@
 -- What the directory shows of a block.
-use Rattle.std.specs.Prelude.{ℕ, Bool, true, false, cond, ◌&&◌, Some, None, Option, ◌==◌}
+use Rattle.std.specs.Prelude.{ℕ, Bool, true, false, ◌&&◌, Some, None, Option, ◌==◌}
 use Rattle.protocols.specs.declared.state.State.{State}
 use Rattle.protocols.specs.declared.state.State.TheVariants.{I, S}
 use Rattle.protocols.specs.States.{held, owning, same_state}

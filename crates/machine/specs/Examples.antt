@@ -1,20 +1,17 @@
 -- Worked examples: short runs, computed on the definitions.
-use Rattle.std.specs.Prelude.{◌≡◌, ℕ, true, false, List, [], ◌∷◌, ◌++◌, replicate, None, Ok, Err}
-use Rattle.bedrock.specs.declared.words.Words.{Words}
-use Rattle.bedrock.specs.BlockWords.{words_of, no_words}
+use Rattle.std.specs.Prelude.{◌≡◌, ℕ, false, List, [], ◌∷◌, ◌++◌, replicate, None, Ok, Err}
+use Rattle.bedrock.specs.BlockWords.{no_words}
 use Rattle.bedrock.specs.Geometries.{Sizes}
 use Rattle.protocols.specs.declared.state.State.TheVariants.{I, S, M, O}
 use Rattle.protocols.specs.declared.protocol_kind.ProtocolKind.{ProtocolKind}
 use Rattle.protocols.specs.declared.protocol_kind.ProtocolKind.TheVariants.{Msi, Mesi, Moesi, Moesif}
 use Rattle.protocols.specs.Tables.{read_row}
 use Rattle.messages.specs.declared.request.Access.TheVariants as access
-use Rattle.messages.specs.declared.request.Request.{Request}
 use Rattle.messages.specs.declared.command.Command.TheVariants.{Transfer}
 use Rattle.machine.specs.declared.order.Order.TheVariants.{Load, Store}
 use Rattle.machine.specs.Holdings.{entry_in}
 use Rattle.machine.specs.Machines.{Machine, new, with_requests}
-use Rattle.machine.specs.Outcomes.{Said, moved_on, loaded, stored, refused}
-use Rattle.machine.specs.Orders.{order}
+use Rattle.machine.specs.Outcomes.{moved_on, loaded, stored, refused}
 use Rattle.machine.specs.Questions.{way_asked, entry_asked, kept_asked, count_asked, length_asked, memory_asked}
 use Rattle.machine.specs.Runs.{Call, orders, delivers, turns, run, answers}
 

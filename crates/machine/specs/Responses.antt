@@ -10,7 +10,6 @@ use Rattle.messages.specs.declared.memory_command.MemoryCommand.TheVariants.{Rea
 use Rattle.messages.specs.Messages.{response_block, memory_command_block}
 use Rattle.wires.specs.Waiting.{without}
 use Rattle.machine.specs.declared.transaction.Source.{Source}
-use Rattle.machine.specs.declared.transaction.Round.{Round}
 use Rattle.machine.specs.declared.transaction.Round.TheVariants.{One, Two}
 use Rattle.machine.specs.declared.transaction.Transaction.{Transaction}
 use Rattle.machine.specs.Machines.{Machine, home, one_more, with_serving, with_count, with_memory, with_responses, with_memory_commands, command, ask_memory}

@@ -89,10 +89,12 @@ mod tests {
                 second: 9,
             },
         );
-        assert_eq!(rt; memory.bytes[47], 0);
-        assert_eq!(rt; memory.bytes[48], 8);
-        assert_eq!(rt; memory.bytes[55], 1);
-        assert_eq!(rt; memory.bytes[56], 9);
-        assert_eq!(rt; memory.bytes[57], 0);
+        let (before, low, high) = (memory.bytes[47], memory.bytes[48], memory.bytes[55]);
+        let (next, last) = (memory.bytes[56], memory.bytes[57]);
+        assert_eq!(rt; before, 0);
+        assert_eq!(rt; low, 8);
+        assert_eq!(rt; high, 1);
+        assert_eq!(rt; next, 9);
+        assert_eq!(rt; last, 0);
     }
 }

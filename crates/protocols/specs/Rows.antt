@@ -1,7 +1,7 @@
 -- The rows of a protocol, and the four laws that each must keep.
-use Rattle.std.specs.Prelude.{Bool, true, false, not, ◌&&◌, ◌||◌}
+use Rattle.std.specs.Prelude.{Bool, false, not, ◌&&◌, ◌||◌}
 use Rattle.protocols.specs.declared.state.State.{State}
-use Rattle.protocols.specs.declared.state.State.TheVariants.{I, S, E, M, O, F}
+use Rattle.protocols.specs.declared.state.State.TheVariants.{I, S, M, O, F}
 use Rattle.protocols.specs.declared.row.Row.{Row}
 use Rattle.protocols.specs.States.{same_state, held, owning, writable, dirty, may_be_dirty}
 

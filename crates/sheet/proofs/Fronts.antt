@@ -1,10 +1,10 @@
 -- What stands at the front of bytes, by letter and length; where the bytes after a record lie.
-use Rattle.std.proofs.Common.{◌≡◌, ℕ, suc, ◌+◌, ◌-◌, ◌<◌, ◌≤◌, Bool, true, false, cond, eqb, leb, List, [], ◌∷◌, length, get_or, take, drop, Some, None, Ok, Err, sym, refl, ap, ◌∙◌, arith}
-use Rattle.std.proofs.lemmas.Bool.{leb-true, cond_both, eq-eqb, ne_eqb, le-leb, lt-leb, cond-true, cond-false}
-use Rattle.std.proofs.lemmas.List.{drop-drop, length-drop, take_rest, drop_more, nil_from_length}
+use Rattle.std.proofs.Common.{◌≡◌, ℕ, suc, ◌+◌, ◌-◌, ◌<◌, ◌≤◌, eqb, leb, List, [], ◌∷◌, length, get_or, take, drop, sym, ap, ◌∙◌, arith}
+use Rattle.std.proofs.lemmas.Bool.{leb-true, cond_both, le-leb, lt-leb, cond-true, cond-false}
+use Rattle.std.proofs.lemmas.List.{drop-drop, length-drop, take_rest}
 use Rattle.sheet.specs.Bytes.{field}
 use Rattle.sheet.specs.Records.{Item, content, note}
-use Rattle.sheet.specs.Format.{Front, ends, holds, refuses, fixed, sized, lettered, front, letter_l, letter_s, letter_d, letter_m, letter_c, letter_n}
+use Rattle.sheet.specs.Format.{Front, holds, refuses, fixed, sized, lettered, front, letter_l, letter_s, letter_d, letter_m, letter_c, letter_n}
 
 -- the rest as a slice pattern has it
 abbrev pub rest : ℕ → List ℕ → List ℕ

@@ -2,9 +2,9 @@
 use Rattle.std.proofs.Common.{◌≡◌, ℕ, Bool, true, false, cond, ◌&&◌, eqb, ltb, Ok, Err, Result, sym, refl, ap, ◌∙◌, arith}
 use Rattle.std.proofs.lemmas.Bool.{cond_both, cond-false, and_right, and_parts, eq-eqb, eqb-true, false≢true}
 use Rattle.bedrock.specs.Refusals.{code_below}
-use Rattle.bedrock.specs.Geometries.{Sizes, bounded, judged_sizes}
+use Rattle.bedrock.specs.Geometries.{bounded, judged_sizes}
 use Rattle.sheet.specs.declared.head.HeadCodes.{HeadCodes}
-use Rattle.sheet.specs.Heads.{judged, sizes_in, in_bounds, same_codes, is_head}
+use Rattle.sheet.specs.Heads.{judged, sizes_in, in_bounds, is_head}
 
 -- a test whose refused side was answered was false, and the refusal is 7
 refused_test : {A : Type 0} (b : Bool) (x : A) (e : ℕ) → Err e ≡ cond b (Ok x) (Err 7) → (b ≡ false) × (e ≡ 7)

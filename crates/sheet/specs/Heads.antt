@@ -1,5 +1,5 @@
 -- The head of a sheet: 13 bytes.
-use Rattle.std.specs.Prelude.{ℕ, Bool, false, cond, ◌&&◌, List, [], ◌∷◌, ◌++◌, length, Ok, Err, codes, Result, ◌==◌, nat_le, nat_lt, slice_index}
+use Rattle.std.specs.Prelude.{ℕ, Bool, false, cond, ◌&&◌, List, ◌∷◌, ◌++◌, length, Ok, Err, codes, Result, ◌==◌, nat_le, nat_lt, slice_index}
 use Rattle.bedrock.specs.Geometries.{Sizes, bounded}
 use Rattle.protocols.specs.ProtocolKinds.{code_of}
 use Rattle.sheet.specs.declared.head.Head.{Head}

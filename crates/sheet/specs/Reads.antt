@@ -1,5 +1,5 @@
 -- What a reader has left, what it answers, and what a whole sheet reads as.
-use Rattle.std.specs.Prelude.{ℕ, zero, suc, List, [], ◌∷◌, length, drop, Some, None, Ok, Err, Option, Result}
+use Rattle.std.specs.Prelude.{ℕ, List, drop, Some, None, Ok, Err, Option, Result}
 use Rattle.bedrock.specs.declared.refusal.Refusal.{Refusal}
 use Rattle.bedrock.specs.Refusals.{number}
 use Rattle.sheet.specs.declared.records.Record.{Record}

@@ -3,12 +3,11 @@ use Rattle.std.proofs.Common.{◌≡◌, ℕ, ◌+◌, ◌≤◌, true, List, []
 use Rattle.std.specs.List.{AllByRecursion as All}
 use Rattle.std.proofs.lemmas.List.{append-nil, length-append, length-take, length-take-le, take_at}
 use Rattle.sheet.specs.declared.head.HeadCodes.{HeadCodes}
-use Rattle.sheet.specs.Bytes.{bytes_of}
 use Rattle.sheet.specs.Heads.{in_bounds, head_bytes}
 use Rattle.sheet.specs.Records.{Item, load, store, deliver, turn, content, note}
 use Rattle.sheet.specs.Format.{encode, size, proper}
 use Rattle.writer.specs.Writes.{Page, pasted, sheet_on}
-use Rattle.writer.specs.RoundTrips.{written, sheet_bytes, InFields, Writable, Holds, ReadsAs}
+use Rattle.writer.specs.RoundTrips.{written, sheet_bytes, InFields, Holds, ReadsAs}
 use Rattle.writer.proofs.Ends.{Fits}
 use Rattle.writer.proofs.RoundTrips.{reads_back}
 

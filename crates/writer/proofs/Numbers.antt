@@ -1,6 +1,6 @@
 -- Numbers in bytes, one law for every width: what is written is read, and what is read is written.
-use Rattle.std.proofs.Common.{◌≡◌, ℕ, zero, suc, ◌+◌, ◌*◌, ◌/◌, ◌%◌, ◌^◌, ◌<◌, ◌≤◌, List, [], ◌∷◌, ◌++◌, length, get_or, sym, refl, ap, ◌∙◌, pow-suc, arith}
-use Rattle.sheet.specs.Bytes.{bytes_of, field, Bytes}
+use Rattle.std.proofs.Common.{◌≡◌, ℕ, zero, suc, ◌+◌, ◌*◌, ◌/◌, ◌%◌, ◌^◌, ◌<◌, List, [], ◌∷◌, get_or, refl, ap, pow-suc, arith}
+use Rattle.sheet.specs.Bytes.{bytes_of, field}
 
 -- the number that a list of bytes writes
 abbrev pub number : List ℕ → ℕ

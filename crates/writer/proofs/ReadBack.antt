@@ -1,5 +1,5 @@
 -- What was written is read: a record, the records, the head.
-use Rattle.std.proofs.Common.{◌≡◌, ℕ, ◌+◌, ◌*◌, ◌/◌, ◌%◌, ◌^◌, ◌<◌, ◌≤◌, true, false, cond, ltb, leb, List, [], ◌∷◌, ◌++◌, length, take, drop, Ok, Err, sym, refl, ap, ◌∙◌, arith}
+use Rattle.std.proofs.Common.{◌≡◌, ℕ, ◌*◌, ◌/◌, ◌%◌, ◌^◌, ◌<◌, ◌≤◌, true, List, [], ◌∷◌, ◌++◌, length, drop, Ok, Err, refl, ap, ◌∙◌, arith}
 use Rattle.std.specs.List.{AllByRecursion as All}
 use Rattle.std.proofs.lemmas.List.{length-append, take_at, drop_at}
 use Rattle.std.proofs.lemmas.Bool.{le-leb, le-ltb, eqb-true, and_parts, cond-true, cond-false}
@@ -7,7 +7,7 @@ use Rattle.sheet.specs.declared.head.HeadCodes.{HeadCodes}
 use Rattle.sheet.specs.Bytes.{bytes_of, field}
 use Rattle.sheet.specs.Heads.{in_bounds, head_bytes, head_of, judged, marked, codes_in}
 use Rattle.sheet.specs.Records.{Item, load, store, deliver, turn, content, note}
-use Rattle.sheet.specs.Format.{Front, holds, fixed, sized, front, encode, proper}
+use Rattle.sheet.specs.Format.{holds, fixed, sized, front, encode, proper}
 use Rattle.sheet.specs.Readings.{reading, next, after, through}
 use Rattle.sheet.proofs.Readings.{reading_step}
 use Rattle.writer.specs.RoundTrips.{InFields, written}

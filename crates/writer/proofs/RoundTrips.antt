@@ -1,5 +1,5 @@
 -- Writing and reading are inverse to each other, over whole sheets.
-use Rattle.std.proofs.Common.{◌≡◌, ℕ, ◌^◌, ◌<◌, true, ltb, leb, List, ◌++◌, drop, ap, ◌∙◌, arith}
+use Rattle.std.proofs.Common.{◌≡◌, ◌^◌, ◌<◌, true, ltb, leb, ◌++◌, drop, ap, ◌∙◌, arith}
 use Rattle.std.proofs.lemmas.Bool.{and_parts, leb-true}
 use Rattle.bedrock.specs.Geometries.{bounded, within}
 use Rattle.sheet.specs.declared.head.HeadCodes.{HeadCodes}

@@ -1,11 +1,11 @@
 -- What is read was written: a record, the records, the head.
-use Rattle.std.proofs.Common.{◌≡◌, ℕ, zero, suc, ◌+◌, ◌*◌, ◌/◌, ◌%◌, ◌<◌, ◌≤◌, Bool, true, false, cond, ◌&&◌, eqb, ltb, leb, List, [], ◌∷◌, ◌++◌, length, get_or, take, drop, Ok, Err, sym, refl, ap, ◌∙◌, subst, append_assoc, add-one, arith}
+use Rattle.std.proofs.Common.{◌≡◌, ℕ, zero, suc, ◌+◌, ◌*◌, ◌/◌, ◌<◌, ◌≤◌, true, eqb, ltb, leb, List, [], ◌∷◌, ◌++◌, length, get_or, take, drop, Ok, sym, refl, ap, ◌∙◌, subst, append_assoc, add-one, arith}
 use Rattle.std.proofs.lemmas.List.{length-take-le, drop_more, take-append-drop}
 use Rattle.std.proofs.lemmas.Bool.{leb-true, eqb-true, cond_both, and_parts}
 use Rattle.sheet.specs.declared.head.HeadCodes.{HeadCodes}
 use Rattle.sheet.specs.Bytes.{bytes_of, field, Bytes}
-use Rattle.sheet.specs.Heads.{in_bounds, judged, head_bytes, head_of, marked, codes_in}
-use Rattle.sheet.specs.Records.{Item, load, store, deliver, turn, content, note}
+use Rattle.sheet.specs.Heads.{in_bounds, head_bytes, head_of, marked, codes_in}
+use Rattle.sheet.specs.Records.{Item, content, note}
 use Rattle.sheet.specs.Format.{Front, ends, holds, refuses, fixed, sized, lettered, front, encode, letter_l, letter_s, letter_d, letter_m, letter_c, letter_n}
 use Rattle.sheet.specs.Readings.{reading, through}
 use Rattle.sheet.proofs.Readings.{reading_none, reading_more}

@@ -1,4 +1,4 @@
-use Rattle.std.proofs.Common.{◌++◌, get_or, sym, ap, ◌∙◌, arith}
+use Rattle.std.proofs.Common.{◌++◌, get_or, sym, ap, ◌∙◌}
 use Rattle.std.proofs.lemmas.List.{take_all}
 use Rattle.listing.specs.Lines.{shown, escaped}
 use Rattle.listing.proofs.Showing.{shown_more}

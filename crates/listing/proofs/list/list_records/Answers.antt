@@ -1,4 +1,4 @@
-use Rattle.std.proofs.Common.{◌≡◌, ◌++◌, vec_items, ap, ◌∙◌, arith}
+use Rattle.std.proofs.Common.{◌++◌, vec_items, ap, ◌∙◌, arith}
 use Rattle.sheet.proofs.Readings.{drew_record}
 use Rattle.listing.proofs.Listing.{listed_record, listed_all, listed_refusal}
 use Rattle.listing.proofs.list.list_records.Goals as goal

@@ -1,4 +1,4 @@
-use Rattle.std.proofs.Common.{◌≡◌, ◌∷◌, ◌++◌, sym, refl, ap, ◌∙◌, arith}
+use Rattle.std.proofs.Common.{refl, ap, ◌∙◌, arith}
 use Rattle.sheet.specs.Records.{item}
 use Rattle.sheet.specs.Format.{encode}
 use Rattle.writer.proofs.Numbers.{eight_bytes}

@@ -1,4 +1,4 @@
-use Rattle.std.proofs.Common.{◌≡◌, true, false, Some, None, sym, ◌∙◌, arith}
+use Rattle.std.proofs.Common.{◌≡◌, true, false, Some, sym, ◌∙◌, arith}
 use Rattle.std.specs.List.{slice_get}
 use Rattle.wires.specs.Lines.{waits}
 use Rattle.wires.specs.Picks.{same_pair}
