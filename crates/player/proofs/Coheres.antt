@@ -19,7 +19,7 @@ use Rattle.sheet.specs.Heads.{head_of, sizes_in, in_bounds, marked, codes_in}
 use Rattle.sheet.specs.Records.{Item}
 use Rattle.runs.proofs.Hearing.{same_says}
 use Rattle.player.specs.Calls.{calls_in, items_in}
-use Rattle.player.specs.Plays.{picks_of, protocol_of, rows_of, content_of, start_of, run_of, reading_of}
+use Rattle.player.specs.Plays.{picks_of, protocol_of, rows_of, content_of, start_of, reading_of}
 use Rattle.player.specs.Coherently.{CoherentRun, CoherentAfter, AllCoherent}
 
 -- ---- picks and indices

@@ -1,5 +1,5 @@
 -- A content is written block by block.
-use Rattle.std.proofs.Common.{◌≡◌, ℕ, zero, suc, ◌+◌, List, refl, add-one}
+use Rattle.std.proofs.Common.{◌≡◌, ℕ, ◌+◌, List, refl, add-one}
 use Rattle.bedrock.specs.declared.words.Words.{Words}
 use Rattle.memory.specs.Blocks.{written}
 use Rattle.player.specs.Contents.{filled_by, words_at}

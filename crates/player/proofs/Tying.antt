@@ -1,7 +1,6 @@
 -- What a run answers, and what the definitions say of the sheet.
-use Rattle.std.proofs.Common.{◌≡◌, ℕ, zero, suc, List, map, sym, refl, ap, ◌∙◌}
+use Rattle.std.proofs.Common.{◌≡◌, ℕ, zero, suc, List, sym, refl, ap, ◌∙◌}
 use Rattle.bedrock.specs.declared.words.Words.{Words}
-use Rattle.bedrock.specs.Geometries.{Sizes, sizes}
 use Rattle.protocols.specs.declared.state.State.{State}
 use Rattle.protocols.specs.declared.row.Row.{Row}
 use Rattle.protocols.specs.declared.protocol_kind.ProtocolKind.{ProtocolKind}
@@ -14,7 +13,7 @@ use Rattle.messages.specs.declared.response.Response.{Response}
 use Rattle.messages.specs.declared.memory_command.MemoryCommand.{MemoryCommand}
 use Rattle.machine.specs.declared.fabric_call.FabricCall.{FabricCall}
 use Rattle.machine.specs.declared.fabric_call.FabricCall.TheVariants as made
-use Rattle.machine.specs.Machines.{Machine, new}
+use Rattle.machine.specs.Machines.{Machine}
 use Rattle.machine.specs.Outcomes.{Said}
 use Rattle.machine.specs.Runs.{Call, delivers, turns}
 use Rattle.machine.specs.Picking.{Picks, arriving, shown_on, heard}

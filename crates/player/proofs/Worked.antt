@@ -5,6 +5,7 @@ use Rattle.memory.specs.Blocks.{written, empty_blocks}
 use Rattle.sheet.specs.Format.{front}
 use Rattle.sheet.specs.Readings.{reading_by, reading}
 use Rattle.player.specs.Contents.{filled_by}
+use Rattle.player.specs.Plays.{lines_by}
 use Rattle.player.specs.Examples.{Examples}
 
 pub worked : Examples

@@ -1,5 +1,5 @@
 -- Worked examples: small sheets, from their bytes to what playing them prints.
-use Rattle.std.specs.Prelude.{◌≡◌, ℕ, List, [], ◌∷◌, ◌++◌, length, replicate, Ok, Err, codes, Result}
+use Rattle.std.specs.Prelude.{◌≡◌, ℕ, List, [], ◌∷◌, ◌++◌, length, replicate, Ok, Err, codes}
 use Rattle.bedrock.specs.Geometries.{Sizes, judged_sizes, set_of}
 use Rattle.machine.specs.Questions.{count_asked}
 use Rattle.sheet.specs.Format.{letter_l, letter_s, letter_d, letter_m, letter_c, letter_n}

@@ -1,6 +1,6 @@
 -- A fabric that follows calls shows what the machine's run of the arrivals leaves.
 use Rattle.std.proofs.Common.{◌≡◌, ℕ, ◌+◌, ◌<◌, true, List, [], ◌∷◌, ◌++◌, reverse, length, get_or, take, sym, refl, ap, ◌∙◌, subst}
-use mathlib.Core.List.{reverse_append}
+use mathlib.Core.List.{reverse-append}
 use Rattle.std.proofs.lemmas.List.{take_more}
 use Rattle.bedrock.specs.Geometries.{Sizes, bounded}
 use Rattle.bedrock.specs.declared.words.Words.{Words}
@@ -43,7 +43,7 @@ pub follows_next : {F : Type 0} (shows : F → Machine) (arrives : F → FabricC
     → Follows shows arrives start (reverse (take (i + 1) calls)) (record { call = arrives f (get_or calls i d); says = a } ∷ events) g
 follows_next shows arrives start calls i d events f g a h before e =
     let x : FabricCall = get_or calls i d in
-    let next : x ∷ reverse (take i calls) ≡ reverse (take (i + 1) calls) = sym (ap reverse (take_more calls i d h) ∙ reverse_append (take i calls) (x ∷ [])) in
+    let next : x ∷ reverse (take i calls) ≡ reverse (take (i + 1) calls) = sym (ap reverse (take_more calls i d h) ∙ reverse-append (take i calls) (x ∷ [])) in
     subst (λ (l : List FabricCall). Follows shows arrives start l (record { call = arrives f x; says = a } ∷ events) g) next (f, before, refl, e)
 
 -- so coherence holds of it

@@ -1,14 +1,10 @@
 -- Where the channels pick by what waits, a run is the machine's run of calls with picks.
-use Rattle.std.proofs.Common.{◌≡◌, ℕ, zero, suc, List, [], ◌∷◌, ◌++◌, reverse, sym, refl, ap, ◌∙◌, append_assoc}
-use mathlib.Core.List.{reverse_cons, reverse_reverse}
+use Rattle.std.proofs.Common.{◌≡◌, List, [], ◌∷◌, ◌++◌, reverse, sym, refl, ap, ◌∙◌, append_assoc}
+use mathlib.Core.List.{reverse-cons, reverse-reverse}
 use Rattle.std.proofs.lemmas.List.{append-nil}
-use Rattle.messages.specs.declared.request.Request.{Request}
-use Rattle.messages.specs.declared.command.Command.{Command}
-use Rattle.messages.specs.declared.response.Response.{Response}
-use Rattle.messages.specs.declared.memory_command.MemoryCommand.{MemoryCommand}
 use Rattle.machine.specs.declared.fabric_call.FabricCall.{FabricCall}
 use Rattle.machine.specs.Machines.{Machine}
-use Rattle.machine.specs.Outcomes.{Said, Outcome}
+use Rattle.machine.specs.Outcomes.{Outcome}
 use Rattle.machine.specs.Runs.{Call, step, Event, Past, says_in}
 use Rattle.machine.specs.Picking.{Picks, arriving, play_on, play, heard}
 use Rattle.runs.specs.Following.{Follows}
@@ -42,7 +38,7 @@ module _ {F : Type 0} (shows : F → Machine) (arrives : F → FabricCall → Ca
   followed (x ∷ calls) [] f h = absurd h
   followed (x ∷ calls) (e ∷ events) f h =
       let at : arriving k (shows h.0) x ≡ e.call = sym (h.2 ∙ same h.0 x) in
-      ap (play k start) (reverse_cons x calls)
+      ap (play k start) (reverse-cons x calls)
       ∙ play_more k (reverse calls) x start []
       ∙ ap (λ (p : Past). further k p x) (followed calls events h.0 h.1)
       ∙ ap (λ (a : Call). record { machine = (step (shows h.0) a).after; events = record { call = a; says = (step (shows h.0) a).says } ∷ events }) at
@@ -51,5 +47,5 @@ module _ {F : Type 0} (shows : F → Machine) (arrives : F → FabricCall → Ca
   -- so what was answered is what the machine answers
   pub follows_heard : (calls : List FabricCall) (events : List Event) (f : F) → Follows shows arrives start (reverse calls) events f → says_in events ≡ heard k start calls
   follows_heard calls events f h =
-      sym (ap (λ (p : Past). says_in p.events) (sym (ap (play k start) (reverse_reverse calls)) ∙ followed (reverse calls) events f h))
+      sym (ap (λ (p : Past). says_in p.events) (sym (ap (play k start) (reverse-reverse calls)) ∙ followed (reverse calls) events f h))
       ∙ same_says k calls start []

@@ -1,5 +1,5 @@
 -- What the theorem asks of a fabric's parts: every geometry is within its bounds, and every protocol keeps the four laws.
-use Rattle.std.proofs.Common.{◌≡◌, true, ◌&&◌, refl, arith}
+use Rattle.std.proofs.Common.{◌≡◌, true, refl, arith}
 use Rattle.std.proofs.lemmas.Bool.Decides.{nat_tests}
 use Rattle.bedrock.specs.declared.geometry.Geometry.{Geometry}
 use Rattle.bedrock.specs.Geometries.{sizes, bounded}

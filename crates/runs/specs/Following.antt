@@ -1,7 +1,6 @@
 -- Runs of a fabric, told by what it shows to the machine, over any protocol, channels and memory.
-use Rattle.std.specs.Prelude.{◌≡◌, ℕ, List, [], ◌∷◌, map, reverse, Result}
+use Rattle.std.specs.Prelude.{◌≡◌, List, [], ◌∷◌, map, reverse, Result}
 use Rattle.bedrock.specs.declared.refusal.Refusal.{Refusal}
-use Rattle.bedrock.specs.declared.words.Words.{Words}
 use Rattle.machine.specs.declared.answer.Answer.{Answer}
 use Rattle.machine.specs.declared.fabric_call.FabricCall.{FabricCall}
 use Rattle.machine.specs.Machines.{Machine}

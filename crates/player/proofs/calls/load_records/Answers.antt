@@ -16,7 +16,7 @@ loop-next-preserved g c =
     loaded_record _ _ _ (vec_items c.loop-next.calls) _ (left c.loop-next.reader) c.loop-next.invariant
     (vec_items c.push_call.new.calls) _ (left c.next_record.new.self) (item c.in-Some.rec) c.is_empty.result (vec_len c.loop-next.calls)
     (rw c.in-Some.is at c.in-Ok.ensures.answers) c.in-Ok.ensures.goes
-    c.in_ok-push_call.ensures c.is_empty.ensures c.loop-next.calls.ok.0 c.take_record.ensures
+    c.in_ok-push_call-in-Some.ensures c.is_empty.ensures c.loop-next.calls.ok.0 c.take_record.ensures
 
 pub returns-in-None : goal.returns-in-None
 returns-in-None g c = loaded_all _ _ _ _ _ _ c.loop-next.invariant (rw c.in-None.is at c.in-Ok.ensures.answers)

@@ -1,4 +1,4 @@
-use Rattle.std.proofs.Common.{◌≡◌, ◌++◌, map, vec_items, ap, ◌∙◌, arith}
+use Rattle.std.proofs.Common.{◌++◌, map, vec_items, ap, ◌∙◌, arith}
 use Rattle.machine.specs.Outcomes.{said}
 use Rattle.sheet.specs.Records.{item}
 use Rattle.sheet.specs.Reads.{left}
@@ -25,9 +25,9 @@ loop-next-preserved c =
       omega (arith, (drew_record _ _ _ a g).1, c.loop-next.invariant.1, c.call_count-called.ensures, one_call x),
       printed_record c.args.blocks (map said c.args.answers.now) (vec_items c.loop-next.out) _ c.loop-next.place c.loop-next.called
           (left c.loop-next.reader) c.loop-next.invariant.2
-          (vec_items c.extend_from_slice.new.self) c.as_slice.result.now (vec_items c.in_ok-line.line) (left c.next_record.new.self) x c.call_count-called.result a g
+          (vec_items c.extend_from_slice.new.self) c.as_slice.result.now (vec_items c.in_ok-line-in-Some.line) (left c.next_record.new.self) x c.call_count-called.result a g
           c.call_count-called.ensures
-          c.in_ok-extend_from_slice.ensures.items c.as_slice.ensures.value c.in_ok-line.ensures,
+          c.in_ok-extend_from_slice-in-Some.ensures.items c.as_slice.ensures.value c.in_ok-line-in-Some.ensures,
     )
 
 pub returns-in-None : goal.returns-in-None
@@ -39,4 +39,4 @@ pub returns-in-Err : goal.returns-in-Err
 returns-in-Err c =
     printed_refusal c.args.blocks (map said c.args.answers.now) (vec_items c.loop-next.out) _ c.loop-next.place c.loop-next.called _ c.loop-next.invariant.2 _ _
     c.in-Err.ensures.answers
-    (c.in_ok-extend_from_slice-2.ensures.items ∙ ap (λ l. vec_items c.loop-next.out ++ l) (c.as_slice-in-Err.ensures.value ∙ c.in_ok-line-2.ensures))
+    (c.in_ok-extend_from_slice-in-Err.ensures.items ∙ ap (λ l. vec_items c.loop-next.out ++ l) (c.as_slice-in-Err.ensures.value ∙ c.in_ok-line-in-Err.ensures))

@@ -1,4 +1,4 @@
-use Rattle.std.proofs.Common.{◌≡◌, ◌≤◌, List, [], ◌∷◌, ◌++◌, map, reverse, length, get_or, take, vec_items, sym, refl, ap, ◌∙◌, subst, arith}
+use Rattle.std.proofs.Common.{◌≡◌, List, [], ◌∷◌, ◌++◌, reverse, get_or, take, vec_items, sym, refl, ap, ◌∙◌, subst, arith}
 use Rattle.std.proofs.lemmas.List.{take_all, map-append}
 use Rattle.bedrock.specs.Geometries.{sizes}
 use Rattle.machine.specs.declared.fabric_call.FabricCall.{FabricCall}
@@ -6,7 +6,7 @@ use Rattle.machine.specs.declared.fabric_call.FabricCall.TheVariants.{Order}
 use Rattle.machine.specs.declared.order.Order.TheVariants.{Load}
 use Rattle.machine.specs.Machines.{Machine, new}
 use Rattle.machine.specs.Outcomes.{Said, said}
-use Rattle.machine.specs.Runs.{Event, says_in}
+use Rattle.machine.specs.Runs.{Event}
 use Rattle.running.specs.Arrivals.{call_at}
 use Rattle.running.specs.Views.{view}
 use Rattle.runs.specs.Following.{Follows, all_said}

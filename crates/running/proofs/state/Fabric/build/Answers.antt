@@ -1,11 +1,9 @@
-use Rattle.std.proofs.Common.{◌≡◌, ℕ, None, Option}
+use Rattle.std.proofs.Common.{◌≡◌, ℕ}
 use Rattle.bedrock.specs.Geometries.{sizes}
 use Rattle.machine.specs.declared.holding.Way.{Way}
 use Rattle.machine.specs.declared.holding.Entry.{Entry}
-use Rattle.machine.specs.declared.order.Order.{Order}
-use Rattle.machine.specs.declared.transaction.Transaction.{Transaction}
 use Rattle.machine.specs.Holdings.{no_way, no_entry}
-use Rattle.tables.specs.Grids.{column, rows, grid, everywhere, everywhere₂, everywhere₃}
+use Rattle.tables.specs.Grids.{grid, everywhere, everywhere₂, everywhere₃}
 use Rattle.running.proofs.state.Fabric.build.Goals as goal
 
 pub returns : goal.returns
