@@ -1,4 +1,4 @@
-use Rattle.std.proofs.Common.{◌≡◌, ◌+◌, ◌*◌, sym, ap, ◌∙◌, arith}
+use Rattle.std.proofs.Common.{◌≡◌, sym, ap, ◌∙◌, arith}
 use Rattle.memory.specs.Blocks.{word_at, start_of, image_blocks}
 use Rattle.memory.specs.Bytes.{image_write, word_same}
 use Rattle.memory.specs.Writes.{written_outside}
