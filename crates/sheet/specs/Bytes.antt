@@ -1,6 +1,6 @@
 -- Numbers in bytes: low byte first.
 use Rattle.std.specs.Prelude.{ℕ, zero, suc, ◌+◌, ◌*◌, ◌/◌, ◌%◌, ◌<◌, List, [], ◌∷◌, slice_index}
-use Rattle.std.specs.List.{AllByRecursion as All}
+use Rattle.std.specs.List.{AllByRecursion}
 
 -- the number n as k bytes
 abbrev pub bytes_of : ℕ → ℕ → List ℕ
@@ -14,4 +14,4 @@ field i (suc k) bs = slice_index bs i + 256 * field (suc i) k bs
 
 -- each element is a byte
 abbrev pub Bytes : List ℕ → Type 0
-Bytes bs = All (λ b. b < 256) bs
+Bytes bs = AllByRecursion (λ b. b < 256) bs

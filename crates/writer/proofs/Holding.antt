@@ -1,6 +1,6 @@
 -- What a page holds, as the writer goes on.
 use Rattle.std.proofs.Common.{◌≡◌, ℕ, ◌+◌, ◌≤◌, true, List, [], ◌∷◌, ◌++◌, length, take, drop, sym, refl, ap, ◌∙◌, subst, append_assoc, arith}
-use Rattle.std.specs.List.{AllByRecursion as All}
+use Rattle.std.specs.List.{AllByRecursion}
 use Rattle.std.proofs.lemmas.List.{append-nil, length-append, length-take, length-take-le, take_at}
 use Rattle.sheet.specs.declared.head.HeadCodes.{HeadCodes}
 use Rattle.sheet.specs.Heads.{in_bounds, head_bytes}
@@ -24,7 +24,7 @@ written_more : (xs : List Item) (x : Item) → written (xs ++ x ∷ []) ≡ writ
 written_more [] x = append-nil (encode x)
 written_more (y ∷ xs) x = ap (λ l. encode y ++ l) (written_more xs x) ∙ sym (append_assoc (encode y) (written xs) (encode x))
 
-all_more : (P : Item → Type 0) (xs : List Item) (x : Item) → All P xs → P x → All P (xs ++ x ∷ [])
+all_more : (P : Item → Type 0) (xs : List Item) (x : Item) → AllByRecursion P xs → P x → AllByRecursion P (xs ++ x ∷ [])
 all_more P [] x h p = (p, tt)
 all_more P (y ∷ xs) x h p = (h.0, all_more P xs x h.1 p)
 

@@ -1,6 +1,6 @@
 -- What was written is read: a record, the records, the head.
 use Rattle.std.proofs.Common.{◌≡◌, ℕ, ◌*◌, ◌/◌, ◌%◌, ◌^◌, ◌<◌, ◌≤◌, true, List, [], ◌∷◌, ◌++◌, length, drop, Ok, Err, refl, ap, ◌∙◌, arith}
-use Rattle.std.specs.List.{AllByRecursion as All}
+use Rattle.std.specs.List.{AllByRecursion}
 use Rattle.std.proofs.lemmas.List.{length-append, take_at, drop_at}
 use Rattle.std.proofs.lemmas.Bool.{le-leb, le-ltb, eqb-true, and_parts, cond-true, cond-false}
 use Rattle.sheet.specs.declared.head.HeadCodes.{HeadCodes}
@@ -38,7 +38,7 @@ front_back (content b bs) rest h p =
     ∙ ap (λ n. holds (content n bs) rest) (number_bytes_of 2 b h)
 front_back (note t) rest h p = sized_is 1 (length t) note (length t ∷ (t ++ rest)) t rest (omega arith) refl refl
 
-pub records_back : (xs : List Item) → All InFields xs → All (λ x. proper x ≡ true) xs → reading (written xs) ≡ through xs
+pub records_back : (xs : List Item) → AllByRecursion InFields xs → AllByRecursion (λ x. proper x ≡ true) xs → reading (written xs) ≡ through xs
 unfolding front
 records_back [] h p = reading_step []
 records_back (x ∷ xs) h p =

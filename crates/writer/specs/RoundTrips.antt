@@ -1,6 +1,6 @@
 -- Writing and reading are inverse to each other, over whole sheets: head and records.
 use Rattle.std.specs.Prelude.{◌≡◌, ℕ, ◌^◌, ◌<◌, ◌≤◌, true, List, [], ◌∷◌, ◌++◌, length, drop, Ok}
-use Rattle.std.specs.List.{AllByRecursion as All}
+use Rattle.std.specs.List.{AllByRecursion}
 use Rattle.sheet.specs.declared.head.HeadCodes.{HeadCodes}
 use Rattle.sheet.specs.Bytes.{Bytes}
 use Rattle.sheet.specs.Heads.{in_bounds, head_bytes, head_of}
@@ -36,8 +36,8 @@ InFields (note t) = Unit {0}
 -- of 0 to 255 whole blocks; and at most 32,768 bytes in all
 pub record Writable (h : HeadCodes) (xs : List Item) : Type 0 where
   pub bounds : in_bounds h ≡ true
-  pub fields : All InFields xs
-  pub lengths : All (λ x. proper x ≡ true) xs
+  pub fields : AllByRecursion InFields xs
+  pub lengths : AllByRecursion (λ x. proper x ≡ true) xs
   pub few : length (sheet_bytes h xs) ≤ 32768
 
 -- the page holds the sheet of this head and these records, which the writer takes
