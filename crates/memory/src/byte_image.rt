@@ -1,6 +1,6 @@
 ghost use Rattle.std.specs.Prelude.{◌≡◌, ℕ, ◌+◌, ◌<◌, ◌≤◌, length, slice_index};
 ghost use Rattle.memory.specs.Blocks.{word_at, start_of, image_blocks};
-ghost use Rattle.memory.specs.Bytes.{image_beyond};
+ghost use Rattle.memory.specs.Beyond.{image_beyond};
 
 use crate::{Memory, ZEROS};
 use bedrock::words::Words;

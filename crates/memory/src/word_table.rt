@@ -1,8 +1,6 @@
 ghost use Rattle.std.specs.Prelude.{◌≡◌, length};
 ghost use Rattle.memory.specs.Blocks.{table_blocks};
-ghost use Rattle.std.proofs.Common.{arith};
-ghost use Rattle.std.proofs.lemmas.List.{get_or_past};
-ghost use Rattle.bedrock.specs.BlockWords.{no_words};
+ghost use Rattle.memory.specs.Beyond.{table_beyond};
 
 use crate::{Memory, ZEROS};
 use bedrock::words::Words;
@@ -17,7 +15,7 @@ pub struct WordTable {
 impl Memory for WordTable {
     ghost blocks = { λ m. table_blocks m.rows };
 
-    ghost beyond = { unfold table_blocks in λ m b le. let sized = m.sized in get_or_past m.rows b no_words (omega arith) };
+    ghost beyond = { λ m b le. table_beyond m.rows m.sized b le };
 
     fn new() -> WordTable {
         WordTable {

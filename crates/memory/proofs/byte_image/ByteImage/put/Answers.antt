@@ -1,5 +1,5 @@
 use Rattle.std.proofs.Common.{◌≡◌, ◌+◌, ◌-◌, ◌≤◌, length, ap, ◌∙◌, arith}
-use Rattle.memory.specs.Bytes.{word_part, part_below, part_above, part_length}
+use Rattle.memory.proofs.Bytes.{word_part, part_below, part_above, part_length}
 use Rattle.memory.proofs.byte_image.ByteImage.put.Goals as goal
 
 pub invariant_of-self : goal.invariant_of-self

@@ -1,4 +1,4 @@
-use Rattle.memory.specs.Bytes.{image_empty}
+use Rattle.memory.proofs.Bytes.{image_empty}
 use Rattle.memory.proofs.byte_image.ByteImageMemory.new.Goals as goal
 
 pub returns : goal.returns

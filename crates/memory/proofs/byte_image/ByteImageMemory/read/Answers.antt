@@ -1,7 +1,7 @@
 use Rattle.std.proofs.Common.{sym, ap, ◌∙◌}
 use Rattle.bedrock.specs.BlockWords.{words_of}
 use Rattle.memory.specs.Blocks.{word_at, start_of, image_blocks}
-use Rattle.memory.specs.Bytes.{image_beyond}
+use Rattle.memory.specs.Beyond.{image_beyond}
 use Rattle.memory.proofs.byte_image.ByteImageMemory.read.Goals as goal
 
 pub returns-then-block-lt1024 : goal.returns-then-block-lt1024

@@ -1,7 +1,7 @@
 use Rattle.std.proofs.Common.{◌≡◌, sym, ap, ◌∙◌, arith}
 use Rattle.memory.specs.Blocks.{word_at, start_of, image_blocks}
-use Rattle.memory.specs.Bytes.{image_write, word_same}
-use Rattle.memory.specs.Writes.{written_outside}
+use Rattle.memory.proofs.Bytes.{image_write, word_same}
+use Rattle.memory.proofs.Writes.{written_outside}
 use Rattle.memory.proofs.byte_image.ByteImageMemory.write.Goals as goal
 
 pub returns-then-block-lt1024 : goal.returns-then-block-lt1024

@@ -1,4 +1,4 @@
-use Rattle.memory.specs.Writes.{table_empty}
+use Rattle.memory.proofs.Writes.{table_empty}
 use Rattle.memory.proofs.word_table.WordTableMemory.new.Goals as goal
 
 pub returns : goal.returns

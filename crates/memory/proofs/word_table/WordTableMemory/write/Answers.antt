@@ -1,5 +1,5 @@
 use Rattle.memory.specs.Blocks.{table_blocks}
-use Rattle.memory.specs.Writes.{table_write, written_outside}
+use Rattle.memory.proofs.Writes.{table_write, written_outside}
 use Rattle.memory.proofs.word_table.WordTableMemory.write.Goals as goal
 
 pub returns-then-block-lt1024 : goal.returns-then-block-lt1024

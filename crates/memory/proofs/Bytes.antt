@@ -3,12 +3,13 @@ use Rattle.std.specs.Prelude.{◌≡◌, ℕ, ◌+◌, ◌*◌, ◌/◌, ◌%◌
 use Rattle.std.proofs.Math.Path.{ap, fun_ext}
 use Rattle.std.proofs.Common.{◌∙◌, ⊎_elim, add-zero, arith, rules}
 use borrow.Rule.Slice.PartMut.{put_mid}
-use Rattle.std.proofs.lemmas.List.{places, get_or_past}
+use Rattle.std.proofs.lemmas.List.{places}
 use Rattle.std.proofs.lemmas.Bool.{cases_lt}
 use Rattle.bedrock.specs.declared.words.Words.{Words}
-use Rattle.bedrock.specs.BlockWords.{words_of, no_words}
+use Rattle.bedrock.specs.BlockWords.{words_of}
 use Rattle.memory.specs.Blocks.{word_at, start_of, image_blocks, empty_blocks, written}
-use Rattle.memory.specs.Writes.{all_same, written_inside}
+use Rattle.memory.specs.Beyond.{zero_block}
+use Rattle.memory.proofs.Writes.{all_same, written_inside}
 
 -- the eight bytes of a value, low byte first
 abbrev digits : ℕ → List ℕ
@@ -21,20 +22,6 @@ digits_sum v h = omega arith
 pub word_same : (xs ys : List ℕ) (p : ℕ) → ((k : ℕ) → p ≤ k → k < p + 8 → slice_index xs k ≡ slice_index ys k) → word_at xs p ≡ word_at ys p
 unfolding word_at
 word_same xs ys p h =
-    let h0 = h p (omega arith) (omega arith) in
-    let h1 = h (p + 1) (omega arith) (omega arith) in
-    let h2 = h (p + 2) (omega arith) (omega arith) in
-    let h3 = h (p + 3) (omega arith) (omega arith) in
-    let h4 = h (p + 4) (omega arith) (omega arith) in
-    let h5 = h (p + 5) (omega arith) (omega arith) in
-    let h6 = h (p + 6) (omega arith) (omega arith) in
-    let h7 = h (p + 7) (omega arith) (omega arith) in
-    omega arith
-
--- eight zero bytes are the word 0
-zero_word : (xs : List ℕ) (p : ℕ) → ((k : ℕ) → p ≤ k → k < p + 8 → slice_index xs k ≡ 0) → word_at xs p ≡ 0
-unfolding word_at
-zero_word xs p h =
     let h0 = h p (omega arith) (omega arith) in
     let h1 = h (p + 1) (omega arith) (omega arith) in
     let h2 = h (p + 2) (omega arith) (omega arith) in
@@ -81,17 +68,6 @@ block_same xs ys b h =
     let one = word_same xs ys (start_of b 0) (λ k l m. h k (omega arith) (omega arith)) in
     let two = word_same xs ys (start_of b 1) (λ k l m. h k (omega arith) (omega arith)) in
     ap (λ w. words_of w (word_at xs (start_of b 1))) one ∙ ap (λ w. words_of (word_at ys (start_of b 0)) w) two
-
-zero_block : (xs : List ℕ) (b : ℕ) → ((k : ℕ) → 16 * b ≤ k → k < 16 * b + 16 → slice_index xs k ≡ 0) → image_blocks xs b ≡ no_words
-unfolding image_blocks
-zero_block xs b h =
-    let one = zero_word xs (start_of b 0) (λ k l m. h k (omega arith) (omega arith)) in
-    let two = zero_word xs (start_of b 1) (λ k l m. h k (omega arith) (omega arith)) in
-    ap (λ w. words_of w (word_at xs (start_of b 1))) one ∙ ap (λ w. words_of 0 w) two
-
--- past the last byte there are zeros
-pub image_beyond : (xs : List ℕ) → length xs ≡ 16384 → (b : ℕ) → 1024 ≤ b → image_blocks xs b ≡ no_words
-image_beyond xs sized b le = zero_block xs b (λ k l m. get_or_past xs k 0 (omega arith))
 
 pub image_empty : (n : ℕ) → image_blocks (replicate n 0) ≡ empty_blocks
 unfolding empty_blocks
