@@ -2,7 +2,6 @@ ghost use Rattle.std.specs.Prelude.{◌≡◌, ◌+◌, ◌<◌, ◌≤◌, true
 ghost use Rattle.messages.specs.declared.command.Command.TheVariants.{Invalidate, SetStateWriteback, Transfer};
 ghost use Rattle.machine.specs.Commands.{given_back, fill as fill_step, obey as obey_step, answers_to, sends_on, deliver_command};
 ghost use Rattle.machine.specs.Outcomes.{answered};
-ghost use Rattle.parts.specs.Views.{view};
 
 use crate::orders::finish;
 use bedrock::party::Party;
@@ -10,13 +9,11 @@ use bedrock::refusal::Refusal;
 use bedrock::words::Words;
 use machine::answer::Answer;
 use machine::holding::Way;
-use memory::Memory;
 use messages::command::Command;
-use messages::memory_command::MemoryCommand;
-use messages::request::Request;
 use messages::response::Response;
+use parts::board::Board;
+use parts::shown::Shown;
 use parts::state::Parts;
-use protocols::protocol::Protocol;
 use protocols::state::State;
 use wires::channel::Channel;
 
@@ -52,23 +49,16 @@ fn sends_on(command: Command) -> bool
 }
 
 // The requestor has the block's words in a state: the kept order is carried out, the wait ends, and Coherence Ack goes out.
-fn fill<
-    P: Protocol,
-    Q: Channel<Request>,
-    C: Channel<Command>,
-    R: Channel<Response>,
-    D: Channel<MemoryCommand>,
-    M: Memory,
->(
-    parts: &mut Parts<P, Q, C, R, D, M>,
+fn fill<B: Board>(
+    parts: &mut Parts<B>,
     cache: u8,
     block: u16,
     way: u8,
     state: State,
     words: Words,
 ) -> Answer
-    requires { length (R.Channel.waiting parts.old.responses) < 128 }
-    ensures { answered (Ok result) (view P.Protocol.row Q.Channel.waiting C.Channel.waiting R.Channel.waiting D.Channel.waiting M.Memory.blocks parts.new) ≡ fill_step (view P.Protocol.row Q.Channel.waiting C.Channel.waiting R.Channel.waiting D.Channel.waiting M.Memory.blocks parts.old) cache block way state words }
+    requires { length (B.Responses.waiting parts.old.responses) < 128 }
+    ensures { answered (Ok result) (⟦<Parts<B> as Shown>⟧.machine parts.new) ≡ fill_step (⟦<Parts<B> as Shown>⟧.machine parts.old) cache block way state words }
 {
     let _ = parts.responses.add(Response::CoherenceAck { cache, block });
     match parts.kept.get(None, cache) {
@@ -82,16 +72,9 @@ fn fill<
 }
 
 // The way goes to I, and what it held is written back.
-fn write_back<
-    P: Protocol,
-    Q: Channel<Request>,
-    C: Channel<Command>,
-    R: Channel<Response>,
-    D: Channel<MemoryCommand>,
-    M: Memory,
->(parts: &mut Parts<P, Q, C, R, D, M>, cache: u8, block: u16, way: u8) -> Answer
-    requires { length (R.Channel.waiting parts.old.responses) < 128 }
-    ensures { answered (Ok result) (view P.Protocol.row Q.Channel.waiting C.Channel.waiting R.Channel.waiting D.Channel.waiting M.Memory.blocks parts.new) ≡ obey_step (view P.Protocol.row Q.Channel.waiting C.Channel.waiting R.Channel.waiting D.Channel.waiting M.Memory.blocks parts.old) (SetStateWriteback cache block way) }
+fn write_back<B: Board>(parts: &mut Parts<B>, cache: u8, block: u16, way: u8) -> Answer
+    requires { length (B.Responses.waiting parts.old.responses) < 128 }
+    ensures { answered (Ok result) (⟦<Parts<B> as Shown>⟧.machine parts.new) ≡ obey_step (⟦<Parts<B> as Shown>⟧.machine parts.old) (SetStateWriteback cache block way) }
 {
     let set = parts.directory.geometry.set_of(block);
     let held = parts.ways.get(Way::empty(), set, cache, way);
@@ -101,16 +84,9 @@ fn write_back<
 }
 
 // The way goes to I.
-fn invalidate<
-    P: Protocol,
-    Q: Channel<Request>,
-    C: Channel<Command>,
-    R: Channel<Response>,
-    D: Channel<MemoryCommand>,
-    M: Memory,
->(parts: &mut Parts<P, Q, C, R, D, M>, cache: u8, block: u16, way: u8) -> Answer
-    requires { length (R.Channel.waiting parts.old.responses) < 128 }
-    ensures { answered (Ok result) (view P.Protocol.row Q.Channel.waiting C.Channel.waiting R.Channel.waiting D.Channel.waiting M.Memory.blocks parts.new) ≡ obey_step (view P.Protocol.row Q.Channel.waiting C.Channel.waiting R.Channel.waiting D.Channel.waiting M.Memory.blocks parts.old) (Invalidate cache block way) }
+fn invalidate<B: Board>(parts: &mut Parts<B>, cache: u8, block: u16, way: u8) -> Answer
+    requires { length (B.Responses.waiting parts.old.responses) < 128 }
+    ensures { answered (Ok result) (⟦<Parts<B> as Shown>⟧.machine parts.new) ≡ obey_step (⟦<Parts<B> as Shown>⟧.machine parts.old) (Invalidate cache block way) }
 {
     let set = parts.directory.geometry.set_of(block);
     parts.ways.put(Way::empty(), set, cache, way, Way::empty());
@@ -121,15 +97,8 @@ fn invalidate<
 }
 
 // The owner's words go to the requestor, and the owner takes its next state; if told to, it also writes back.
-fn transfer<
-    P: Protocol,
-    Q: Channel<Request>,
-    C: Channel<Command>,
-    R: Channel<Response>,
-    D: Channel<MemoryCommand>,
-    M: Memory,
->(
-    parts: &mut Parts<P, Q, C, R, D, M>,
+fn transfer<B: Board>(
+    parts: &mut Parts<B>,
     cache: u8,
     block: u16,
     way: u8,
@@ -139,8 +108,8 @@ fn transfer<
     requestor_next: State,
     writeback: bool,
 ) -> Answer
-    requires { (length (C.Channel.waiting parts.old.commands) < 128) × ((writeback ≡ true → length (R.Channel.waiting parts.old.responses) < 128)) }
-    ensures { answered (Ok result) (view P.Protocol.row Q.Channel.waiting C.Channel.waiting R.Channel.waiting D.Channel.waiting M.Memory.blocks parts.new) ≡ obey_step (view P.Protocol.row Q.Channel.waiting C.Channel.waiting R.Channel.waiting D.Channel.waiting M.Memory.blocks parts.old) (Transfer cache block way requestor requestor_way owner_next requestor_next writeback) }
+    requires { (length (B.Commands.waiting parts.old.commands) < 128) × ((writeback ≡ true → length (B.Responses.waiting parts.old.responses) < 128)) }
+    ensures { answered (Ok result) (⟦<Parts<B> as Shown>⟧.machine parts.new) ≡ obey_step (⟦<Parts<B> as Shown>⟧.machine parts.old) (Transfer cache block way requestor requestor_way owner_next requestor_next writeback) }
 {
     let set = parts.directory.geometry.set_of(block);
     let held = parts.ways.get(Way::empty(), set, cache, way);
@@ -167,16 +136,9 @@ fn transfer<
 }
 
 // Does what a command tells its cache to do. What it sends has room.
-fn obey<
-    P: Protocol,
-    Q: Channel<Request>,
-    C: Channel<Command>,
-    R: Channel<Response>,
-    D: Channel<MemoryCommand>,
-    M: Memory,
->(parts: &mut Parts<P, Q, C, R, D, M>, command: Command) -> Answer
-    requires { (length (R.Channel.waiting parts.old.responses) + answers_to command ≤ 128) × ((sends_on command ≡ true → length (C.Channel.waiting parts.old.commands) < 128)) }
-    ensures { answered (Ok result) (view P.Protocol.row Q.Channel.waiting C.Channel.waiting R.Channel.waiting D.Channel.waiting M.Memory.blocks parts.new) ≡ obey_step (view P.Protocol.row Q.Channel.waiting C.Channel.waiting R.Channel.waiting D.Channel.waiting M.Memory.blocks parts.old) command }
+fn obey<B: Board>(parts: &mut Parts<B>, command: Command) -> Answer
+    requires { (length (B.Responses.waiting parts.old.responses) + answers_to command ≤ 128) × ((sends_on command ≡ true → length (B.Commands.waiting parts.old.commands) < 128)) }
+    ensures { answered (Ok result) (⟦<Parts<B> as Shown>⟧.machine parts.new) ≡ obey_step (⟦<Parts<B> as Shown>⟧.machine parts.old) command }
 {
     match command {
         Command::Invalidate { cache, block, way } => invalidate(parts, cache, block, way),
@@ -218,15 +180,8 @@ fn obey<
 }
 
 // Whether what a command sends has room, counted before the command is taken.
-fn has_room_for<
-    P: Protocol,
-    Q: Channel<Request>,
-    C: Channel<Command>,
-    R: Channel<Response>,
-    D: Channel<MemoryCommand>,
-    M: Memory,
->(parts: &Parts<P, Q, C, R, D, M>, command: Command) -> bool
-    ensures { not result ≡ (nat_lt 128 (length (R.Channel.waiting parts.now.responses) + answers_to command) || (sends_on command && nat_le 128 (length (C.Channel.waiting parts.now.commands)))) }
+fn has_room_for<B: Board>(parts: &Parts<B>, command: Command) -> bool
+    ensures { not result ≡ (nat_lt 128 (length (B.Responses.waiting parts.now.responses) + answers_to command) || (sends_on command && nat_le 128 (length (B.Commands.waiting parts.now.commands)))) }
 {
     if parts.responses.len() + answers_to(command) > 128 {
         return false;
@@ -235,15 +190,8 @@ fn has_room_for<
 }
 
 // The command that the pick shows arrives at its cache.
-pub fn deliver_command<
-    P: Protocol,
-    Q: Channel<Request>,
-    C: Channel<Command>,
-    R: Channel<Response>,
-    D: Channel<MemoryCommand>,
-    M: Memory,
->(parts: &mut Parts<P, Q, C, R, D, M>, pick: u8) -> Result<Answer, Refusal>
-    ensures { answered result (view P.Protocol.row Q.Channel.waiting C.Channel.waiting R.Channel.waiting D.Channel.waiting M.Memory.blocks parts.new) ≡ deliver_command (view P.Protocol.row Q.Channel.waiting C.Channel.waiting R.Channel.waiting D.Channel.waiting M.Memory.blocks parts.old) (C.Channel.chosen parts.old.commands pick) }
+pub fn deliver_command<B: Board>(parts: &mut Parts<B>, pick: u8) -> Result<Answer, Refusal>
+    ensures { answered result (⟦<Parts<B> as Shown>⟧.machine parts.new) ≡ deliver_command (⟦<Parts<B> as Shown>⟧.machine parts.old) (B.Commands.chosen parts.old.commands pick) }
 {
     match parts.commands.look(pick) {
         None => Err(Refusal::ChannelEmpty),

@@ -1,7 +1,6 @@
 ghost use Rattle.std.specs.Prelude.{◌≡◌, suc, ◌<◌, length, if◌then◌else◌, Ok, nat_lt};
 ghost use Rattle.machine.specs.Orders.{finish as finish_step, ask_for, ask_for_new, miss as miss_step, order_at, holding_way, order as order_step};
 ghost use Rattle.machine.specs.Outcomes.{answered};
-ghost use Rattle.parts.specs.Views.{view};
 
 use crate::lookup::{Wanted, lowest_way};
 use bedrock::refusal::Refusal;
@@ -9,13 +8,10 @@ use bedrock::words::Words;
 use machine::answer::Answer;
 use machine::holding::Way;
 use machine::order::Order;
-use memory::Memory;
-use messages::command::Command;
-use messages::memory_command::MemoryCommand;
 use messages::request::Request;
-use messages::response::Response;
+use parts::board::Board;
+use parts::shown::Shown;
 use parts::state::Parts;
-use protocols::protocol::Protocol;
 use protocols::state::State;
 use wires::channel::Channel;
 
@@ -31,15 +27,8 @@ fn next_turn(turn: u8, ways: u8) -> u8
 }
 
 // Carries out an order at a way that has the block's words in a state: a load answers its word, a store replaces it and leaves M.
-pub(crate) fn finish<
-    P: Protocol,
-    Q: Channel<Request>,
-    C: Channel<Command>,
-    R: Channel<Response>,
-    D: Channel<MemoryCommand>,
-    M: Memory,
->(
-    parts: &mut Parts<P, Q, C, R, D, M>,
+pub(crate) fn finish<B: Board>(
+    parts: &mut Parts<B>,
     set: u8,
     cache: u8,
     way: u8,
@@ -47,7 +36,7 @@ pub(crate) fn finish<
     words: Words,
     asked: Order,
 ) -> Answer
-    ensures { answered (Ok result) (view P.Protocol.row Q.Channel.waiting C.Channel.waiting R.Channel.waiting D.Channel.waiting M.Memory.blocks parts.new) ≡ finish_step (view P.Protocol.row Q.Channel.waiting C.Channel.waiting R.Channel.waiting D.Channel.waiting M.Memory.blocks parts.old) set cache way state words asked }
+    ensures { answered (Ok result) (⟦<Parts<B> as Shown>⟧.machine parts.new) ≡ finish_step (⟦<Parts<B> as Shown>⟧.machine parts.old) set cache way state words asked }
 {
     match asked {
         Order::Load { block, word } => {
@@ -77,15 +66,8 @@ pub(crate) fn finish<
 }
 
 // The way in which a cache holds a block.
-fn holding_way<
-    P: Protocol,
-    Q: Channel<Request>,
-    C: Channel<Command>,
-    R: Channel<Response>,
-    D: Channel<MemoryCommand>,
-    M: Memory,
->(parts: &Parts<P, Q, C, R, D, M>, cache: u8, block: u16) -> Option<u8>
-    ensures { result ≡ holding_way (view P.Protocol.row Q.Channel.waiting C.Channel.waiting R.Channel.waiting D.Channel.waiting M.Memory.blocks parts.now) cache block }
+fn holding_way<B: Board>(parts: &Parts<B>, cache: u8, block: u16) -> Option<u8>
+    ensures { result ≡ holding_way (⟦<Parts<B> as Shown>⟧.machine parts.now) cache block }
 {
     let set = parts.directory.geometry.set_of(block);
     lowest_way(
@@ -98,16 +80,9 @@ fn holding_way<
 }
 
 // The cache keeps the order and waits, and a request goes out that names the way.
-fn ask_for<
-    P: Protocol,
-    Q: Channel<Request>,
-    C: Channel<Command>,
-    R: Channel<Response>,
-    D: Channel<MemoryCommand>,
-    M: Memory,
->(parts: &mut Parts<P, Q, C, R, D, M>, cache: u8, asked: Order, way: u8) -> Answer
-    requires { length (Q.Channel.waiting parts.old.requests) < 128 }
-    ensures { answered (Ok result) (view P.Protocol.row Q.Channel.waiting C.Channel.waiting R.Channel.waiting D.Channel.waiting M.Memory.blocks parts.new) ≡ ask_for (view P.Protocol.row Q.Channel.waiting C.Channel.waiting R.Channel.waiting D.Channel.waiting M.Memory.blocks parts.old) cache asked way }
+fn ask_for<B: Board>(parts: &mut Parts<B>, cache: u8, asked: Order, way: u8) -> Answer
+    requires { length (B.Requests.waiting parts.old.requests) < 128 }
+    ensures { answered (Ok result) (⟦<Parts<B> as Shown>⟧.machine parts.new) ≡ ask_for (⟦<Parts<B> as Shown>⟧.machine parts.old) cache asked way }
 {
     parts.kept.put(None, cache, Some(asked));
     let _ = parts.requests.add(Request {
@@ -120,16 +95,9 @@ fn ask_for<
 }
 
 // A miss without a way that holds the block takes the lowest in I, else the one that the turn number names, which then steps.
-fn ask_for_new<
-    P: Protocol,
-    Q: Channel<Request>,
-    C: Channel<Command>,
-    R: Channel<Response>,
-    D: Channel<MemoryCommand>,
-    M: Memory,
->(parts: &mut Parts<P, Q, C, R, D, M>, cache: u8, asked: Order, set: u8) -> Answer
-    requires { length (Q.Channel.waiting parts.old.requests) < 128 }
-    ensures { answered (Ok result) (view P.Protocol.row Q.Channel.waiting C.Channel.waiting R.Channel.waiting D.Channel.waiting M.Memory.blocks parts.new) ≡ ask_for_new (view P.Protocol.row Q.Channel.waiting C.Channel.waiting R.Channel.waiting D.Channel.waiting M.Memory.blocks parts.old) cache asked set }
+fn ask_for_new<B: Board>(parts: &mut Parts<B>, cache: u8, asked: Order, set: u8) -> Answer
+    requires { length (B.Requests.waiting parts.old.requests) < 128 }
+    ensures { answered (Ok result) (⟦<Parts<B> as Shown>⟧.machine parts.new) ≡ ask_for_new (⟦<Parts<B> as Shown>⟧.machine parts.old) cache asked set }
 {
     match lowest_way(
         &parts.ways,
@@ -153,20 +121,13 @@ fn ask_for_new<
 }
 
 // An order that misses, with the way that holds its block if there is one.
-fn miss<
-    P: Protocol,
-    Q: Channel<Request>,
-    C: Channel<Command>,
-    R: Channel<Response>,
-    D: Channel<MemoryCommand>,
-    M: Memory,
->(
-    parts: &mut Parts<P, Q, C, R, D, M>,
+fn miss<B: Board>(
+    parts: &mut Parts<B>,
     cache: u8,
     asked: Order,
     at: Option<u8>,
 ) -> Result<Answer, Refusal>
-    ensures { answered result (view P.Protocol.row Q.Channel.waiting C.Channel.waiting R.Channel.waiting D.Channel.waiting M.Memory.blocks parts.new) ≡ miss_step (view P.Protocol.row Q.Channel.waiting C.Channel.waiting R.Channel.waiting D.Channel.waiting M.Memory.blocks parts.old) cache asked at }
+    ensures { answered result (⟦<Parts<B> as Shown>⟧.machine parts.new) ≡ miss_step (⟦<Parts<B> as Shown>⟧.machine parts.old) cache asked at }
 {
     if parts.requests.len() >= 128 {
         return Err(Refusal::NoRoom);
@@ -181,20 +142,13 @@ fn miss<
 }
 
 // An order of a cache that does not wait: a hit is finished, a miss waits.
-fn order_at<
-    P: Protocol,
-    Q: Channel<Request>,
-    C: Channel<Command>,
-    R: Channel<Response>,
-    D: Channel<MemoryCommand>,
-    M: Memory,
->(
-    parts: &mut Parts<P, Q, C, R, D, M>,
+fn order_at<B: Board>(
+    parts: &mut Parts<B>,
     cache: u8,
     asked: Order,
     at: Option<u8>,
 ) -> Result<Answer, Refusal>
-    ensures { answered result (view P.Protocol.row Q.Channel.waiting C.Channel.waiting R.Channel.waiting D.Channel.waiting M.Memory.blocks parts.new) ≡ order_at (view P.Protocol.row Q.Channel.waiting C.Channel.waiting R.Channel.waiting D.Channel.waiting M.Memory.blocks parts.old) cache asked at }
+    ensures { answered result (⟦<Parts<B> as Shown>⟧.machine parts.new) ≡ order_at (⟦<Parts<B> as Shown>⟧.machine parts.old) cache asked at }
 {
     match at {
         None => miss(parts, cache, asked, None),
@@ -210,15 +164,8 @@ fn order_at<
 }
 
 // A load or a store by a cache.
-pub fn order<
-    P: Protocol,
-    Q: Channel<Request>,
-    C: Channel<Command>,
-    R: Channel<Response>,
-    D: Channel<MemoryCommand>,
-    M: Memory,
->(parts: &mut Parts<P, Q, C, R, D, M>, cache: u8, asked: Order) -> Result<Answer, Refusal>
-    ensures { answered result (view P.Protocol.row Q.Channel.waiting C.Channel.waiting R.Channel.waiting D.Channel.waiting M.Memory.blocks parts.new) ≡ order_step (view P.Protocol.row Q.Channel.waiting C.Channel.waiting R.Channel.waiting D.Channel.waiting M.Memory.blocks parts.old) cache asked }
+pub fn order<B: Board>(parts: &mut Parts<B>, cache: u8, asked: Order) -> Result<Answer, Refusal>
+    ensures { answered result (⟦<Parts<B> as Shown>⟧.machine parts.new) ≡ order_step (⟦<Parts<B> as Shown>⟧.machine parts.old) cache asked }
 {
     if cache >= parts.directory.geometry.caches() {
         return Err(Refusal::NoSuchCache);

@@ -2,7 +2,6 @@ ghost use Rattle.std.specs.Prelude.{◌≡◌, ◌-◌, ◌<◌, true, length};
 ghost use Rattle.machine.specs.Machines.{with_count};
 ghost use Rattle.machine.specs.Responses.{close as close_step, carry_out, is_read, memory_turn};
 ghost use Rattle.machine.specs.Outcomes.{answered};
-ghost use Rattle.parts.specs.Views.{view};
 
 use crate::counts::{close, count_down};
 use bedrock::party::Party;
@@ -11,10 +10,9 @@ use machine::answer::Answer;
 use memory::Memory;
 use messages::command::Command;
 use messages::memory_command::MemoryCommand;
-use messages::request::Request;
-use messages::response::Response;
+use parts::board::Board;
+use parts::shown::Shown;
 use parts::state::Parts;
-use protocols::protocol::Protocol;
 use wires::channel::Channel;
 
 // Whether a memory command is a read, which sends Set Tag with Data.
@@ -25,16 +23,9 @@ fn is_read(command: MemoryCommand) -> bool
 }
 
 // A read sends the words to the requestor, a write changes the memory.
-fn carry_out<
-    P: Protocol,
-    Q: Channel<Request>,
-    C: Channel<Command>,
-    R: Channel<Response>,
-    D: Channel<MemoryCommand>,
-    M: Memory,
->(parts: &mut Parts<P, Q, C, R, D, M>, command: MemoryCommand)
-    requires { is_read command ≡ true → length (C.Channel.waiting parts.old.commands) < 128 }
-    ensures { (view P.Protocol.row Q.Channel.waiting C.Channel.waiting R.Channel.waiting D.Channel.waiting M.Memory.blocks parts.new) ≡ carry_out (view P.Protocol.row Q.Channel.waiting C.Channel.waiting R.Channel.waiting D.Channel.waiting M.Memory.blocks parts.old) command }
+fn carry_out<B: Board>(parts: &mut Parts<B>, command: MemoryCommand)
+    requires { is_read command ≡ true → length (B.Commands.waiting parts.old.commands) < 128 }
+    ensures { ⟦<Parts<B> as Shown>⟧.machine parts.new ≡ carry_out (⟦<Parts<B> as Shown>⟧.machine parts.old) command }
 {
     match command {
         MemoryCommand::Read {
@@ -58,15 +49,8 @@ fn carry_out<
 }
 
 // The memory carries out the command that the pick shows.
-pub fn memory_turn<
-    P: Protocol,
-    Q: Channel<Request>,
-    C: Channel<Command>,
-    R: Channel<Response>,
-    D: Channel<MemoryCommand>,
-    M: Memory,
->(parts: &mut Parts<P, Q, C, R, D, M>, pick: u8) -> Result<Answer, Refusal>
-    ensures { answered result (view P.Protocol.row Q.Channel.waiting C.Channel.waiting R.Channel.waiting D.Channel.waiting M.Memory.blocks parts.new) ≡ memory_turn (view P.Protocol.row Q.Channel.waiting C.Channel.waiting R.Channel.waiting D.Channel.waiting M.Memory.blocks parts.old) (D.Channel.chosen parts.old.memory_commands pick) }
+pub fn memory_turn<B: Board>(parts: &mut Parts<B>, pick: u8) -> Result<Answer, Refusal>
+    ensures { answered result (⟦<Parts<B> as Shown>⟧.machine parts.new) ≡ memory_turn (⟦<Parts<B> as Shown>⟧.machine parts.old) (B.MemoryCommands.chosen parts.old.memory_commands pick) }
 {
     match parts.memory_commands.look(pick) {
         None => Err(Refusal::ChannelEmpty),

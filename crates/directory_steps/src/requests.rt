@@ -2,26 +2,23 @@ ghost use Rattle.std.specs.Prelude.{◌≡◌, ◌+◌, ◌≤◌, not, [], ◌+
 ghost use Rattle.directory.specs.Batches.{sent};
 ghost use Rattle.machine.specs.Acceptance.{record_job, from_memory, accept as accept_step, deliver_request};
 ghost use Rattle.machine.specs.Outcomes.{answered};
-ghost use Rattle.parts.specs.Views.{view};
 
 use crate::round_two::{begin_two, from_memory};
 use bedrock::refusal::Refusal;
 use directory::batch::Batch;
 use machine::answer::Answer;
 use machine::transaction::{Job, Round, Source, Transaction};
-use memory::Memory;
 use messages::command::Command;
-use messages::memory_command::MemoryCommand;
 use messages::request::Request;
-use messages::response::Response;
+use parts::board::Board;
+use parts::shown::Shown;
 use parts::state::Parts;
-use protocols::protocol::Protocol;
 use wires::channel::Channel;
 
 // Sends the commands of a batch, in their order.
 fn send_all<C: Channel<Command>>(channel: &mut C, batch: &Batch)
-    requires { length (C.Channel.waiting channel.old) + length (sent batch.now) ≤ 128 }
-    ensures { C.Channel.waiting channel.new ≡ C.Channel.waiting channel.old ++ sent batch.now }
+    requires { length (C.waiting channel.old) + length (sent batch.now) ≤ 128 }
+    ensures { C.waiting channel.new ≡ C.waiting channel.old ++ sent batch.now }
 {
     for index in 0..batch.len() {
         if let Some(command) = batch.get(index) {
@@ -31,15 +28,8 @@ fn send_all<C: Channel<Command>>(channel: &mut C, batch: &Batch)
 }
 
 // The directory keeps what was decided, with the final entries, and awaits the answers of round one and the Coherence Ack.
-fn record_job<
-    P: Protocol,
-    Q: Channel<Request>,
-    C: Channel<Command>,
-    R: Channel<Response>,
-    D: Channel<MemoryCommand>,
-    M: Memory,
->(parts: &mut Parts<P, Q, C, R, D, M>, job: Job, left: u8)
-    ensures { (view P.Protocol.row Q.Channel.waiting C.Channel.waiting R.Channel.waiting D.Channel.waiting M.Memory.blocks parts.new) ≡ record_job (view P.Protocol.row Q.Channel.waiting C.Channel.waiting R.Channel.waiting D.Channel.waiting M.Memory.blocks parts.old) job left }
+fn record_job<B: Board>(parts: &mut Parts<B>, job: Job, left: u8)
+    ensures { ⟦<Parts<B> as Shown>⟧.machine parts.new ≡ record_job (⟦<Parts<B> as Shown>⟧.machine parts.old) job left }
 {
     let set = parts.directory.geometry.set_of(job.block);
     let round = Round::One { left };
@@ -51,15 +41,8 @@ fn record_job<
 }
 
 // Whether what round two sends has room.
-fn has_room_for_two<
-    P: Protocol,
-    Q: Channel<Request>,
-    C: Channel<Command>,
-    R: Channel<Response>,
-    D: Channel<MemoryCommand>,
-    M: Memory,
->(parts: &Parts<P, Q, C, R, D, M>, source: Source) -> bool
-    ensures { not result ≡ (if from_memory source then nat_le 128 (length (D.Channel.waiting parts.now.memory_commands)) else nat_le 128 (length (C.Channel.waiting parts.now.commands))) }
+fn has_room_for_two<B: Board>(parts: &Parts<B>, source: Source) -> bool
+    ensures { not result ≡ (if from_memory source then nat_le 128 (length (B.MemoryCommands.waiting parts.now.memory_commands)) else nat_le 128 (length (B.Commands.waiting parts.now.commands))) }
 {
     if from_memory(source) {
         return parts.memory_commands.len() < 128;
@@ -68,20 +51,13 @@ fn has_room_for_two<
 }
 
 // Nothing has to be emptied first: round two begins at once.
-fn accept_at_once<
-    P: Protocol,
-    Q: Channel<Request>,
-    C: Channel<Command>,
-    R: Channel<Response>,
-    D: Channel<MemoryCommand>,
-    M: Memory,
->(
-    parts: &mut Parts<P, Q, C, R, D, M>,
+fn accept_at_once<B: Board>(
+    parts: &mut Parts<B>,
     pick: u8,
     request: Request,
     job: Job,
 ) -> Result<Answer, Refusal>
-    ensures { answered result (view P.Protocol.row Q.Channel.waiting C.Channel.waiting R.Channel.waiting D.Channel.waiting M.Memory.blocks parts.new) ≡ accept_step (view P.Protocol.row Q.Channel.waiting C.Channel.waiting R.Channel.waiting D.Channel.waiting M.Memory.blocks parts.old) (Q.Channel.chosen parts.old.requests pick) request job [] }
+    ensures { answered result (⟦<Parts<B> as Shown>⟧.machine parts.new) ≡ accept_step (⟦<Parts<B> as Shown>⟧.machine parts.old) (B.Requests.chosen parts.old.requests pick) request job [] }
 {
     if !has_room_for_two(parts, job.source) {
         return Err(Refusal::NoRoom);
@@ -93,21 +69,14 @@ fn accept_at_once<
 }
 
 // The request that the pick shows is accepted with the job and the first round that were decided.
-fn accept<
-    P: Protocol,
-    Q: Channel<Request>,
-    C: Channel<Command>,
-    R: Channel<Response>,
-    D: Channel<MemoryCommand>,
-    M: Memory,
->(
-    parts: &mut Parts<P, Q, C, R, D, M>,
+fn accept<B: Board>(
+    parts: &mut Parts<B>,
     pick: u8,
     request: Request,
     job: Job,
     first: &Batch,
 ) -> Result<Answer, Refusal>
-    ensures { answered result (view P.Protocol.row Q.Channel.waiting C.Channel.waiting R.Channel.waiting D.Channel.waiting M.Memory.blocks parts.new) ≡ accept_step (view P.Protocol.row Q.Channel.waiting C.Channel.waiting R.Channel.waiting D.Channel.waiting M.Memory.blocks parts.old) (Q.Channel.chosen parts.old.requests pick) request job (sent first.now) }
+    ensures { answered result (⟦<Parts<B> as Shown>⟧.machine parts.new) ≡ accept_step (⟦<Parts<B> as Shown>⟧.machine parts.old) (B.Requests.chosen parts.old.requests pick) request job (sent first.now) }
 {
     let left = first.len();
     if left == 0 {
@@ -123,15 +92,8 @@ fn accept<
 }
 
 // The request that the pick shows arrives at the directory.
-pub fn deliver_request<
-    P: Protocol,
-    Q: Channel<Request>,
-    C: Channel<Command>,
-    R: Channel<Response>,
-    D: Channel<MemoryCommand>,
-    M: Memory,
->(parts: &mut Parts<P, Q, C, R, D, M>, pick: u8) -> Result<Answer, Refusal>
-    ensures { answered result (view P.Protocol.row Q.Channel.waiting C.Channel.waiting R.Channel.waiting D.Channel.waiting M.Memory.blocks parts.new) ≡ deliver_request (view P.Protocol.row Q.Channel.waiting C.Channel.waiting R.Channel.waiting D.Channel.waiting M.Memory.blocks parts.old) (Q.Channel.chosen parts.old.requests pick) }
+pub fn deliver_request<B: Board>(parts: &mut Parts<B>, pick: u8) -> Result<Answer, Refusal>
+    ensures { answered result (⟦<Parts<B> as Shown>⟧.machine parts.new) ≡ deliver_request (⟦<Parts<B> as Shown>⟧.machine parts.old) (B.Requests.chosen parts.old.requests pick) }
 {
     match parts.requests.look(pick) {
         None => Err(Refusal::ChannelEmpty),

@@ -3,7 +3,6 @@ ghost use Rattle.messages.specs.declared.response.Response.TheVariants.{Writebac
 ghost use Rattle.machine.specs.declared.transaction.Round.TheVariants.{One};
 ghost use Rattle.machine.specs.Responses.{pass_on, writes_on, advance as advance_step, starts, memory_reads, commands_sent, deliver_response};
 ghost use Rattle.machine.specs.Outcomes.{answered};
-ghost use Rattle.parts.specs.Views.{view};
 
 use crate::counts::{close, count_down, count_up};
 use crate::round_two::{begin_two, from_memory};
@@ -11,13 +10,11 @@ use bedrock::refusal::Refusal;
 use bedrock::words::Words;
 use machine::answer::Answer;
 use machine::transaction::{Round, Source, Transaction};
-use memory::Memory;
-use messages::command::Command;
 use messages::memory_command::MemoryCommand;
-use messages::request::Request;
 use messages::response::Response;
+use parts::board::Board;
+use parts::shown::Shown;
 use parts::state::Parts;
-use protocols::protocol::Protocol;
 use wires::channel::Channel;
 
 // How many memory writes a response makes the directory send.
@@ -67,16 +64,9 @@ fn commands_sent(start: Option<Source>) -> usize
 }
 
 // A Writeback makes the directory send a memory write, which is awaited.
-fn pass_on<
-    P: Protocol,
-    Q: Channel<Request>,
-    C: Channel<Command>,
-    R: Channel<Response>,
-    D: Channel<MemoryCommand>,
-    M: Memory,
->(parts: &mut Parts<P, Q, C, R, D, M>, cache: u8, block: u16, words: Words)
-    requires { length (D.Channel.waiting parts.old.memory_commands) < 128 }
-    ensures { (view P.Protocol.row Q.Channel.waiting C.Channel.waiting R.Channel.waiting D.Channel.waiting M.Memory.blocks parts.new) ≡ pass_on (view P.Protocol.row Q.Channel.waiting C.Channel.waiting R.Channel.waiting D.Channel.waiting M.Memory.blocks parts.old) (Writeback cache block words) }
+fn pass_on<B: Board>(parts: &mut Parts<B>, cache: u8, block: u16, words: Words)
+    requires { length (B.MemoryCommands.waiting parts.old.memory_commands) < 128 }
+    ensures { ⟦<Parts<B> as Shown>⟧.machine parts.new ≡ pass_on (⟦<Parts<B> as Shown>⟧.machine parts.old) (Writeback cache block words) }
 {
     let _ = parts
         .memory_commands
@@ -86,16 +76,9 @@ fn pass_on<
 }
 
 // An answer of round one is in: the last one starts round two.
-fn one_fewer<
-    P: Protocol,
-    Q: Channel<Request>,
-    C: Channel<Command>,
-    R: Channel<Response>,
-    D: Channel<MemoryCommand>,
-    M: Memory,
->(parts: &mut Parts<P, Q, C, R, D, M>, set: u8, transaction: Transaction, left: u8)
-    requires { (transaction.round ≡ One left) × ((length (D.Channel.waiting parts.old.memory_commands) + memory_reads (starts (Some transaction)) ≤ 128) × (length (C.Channel.waiting parts.old.commands) + commands_sent (starts (Some transaction)) ≤ 128)) }
-    ensures { (view P.Protocol.row Q.Channel.waiting C.Channel.waiting R.Channel.waiting D.Channel.waiting M.Memory.blocks parts.new) ≡ advance_step (view P.Protocol.row Q.Channel.waiting C.Channel.waiting R.Channel.waiting D.Channel.waiting M.Memory.blocks parts.old) set (Some transaction) }
+fn one_fewer<B: Board>(parts: &mut Parts<B>, set: u8, transaction: Transaction, left: u8)
+    requires { (transaction.round ≡ One left) × ((length (B.MemoryCommands.waiting parts.old.memory_commands) + memory_reads (starts (Some transaction)) ≤ 128) × (length (B.Commands.waiting parts.old.commands) + commands_sent (starts (Some transaction)) ≤ 128)) }
+    ensures { ⟦<Parts<B> as Shown>⟧.machine parts.new ≡ advance_step (⟦<Parts<B> as Shown>⟧.machine parts.old) set (Some transaction) }
 {
     if left == 0 {
         return;
@@ -113,16 +96,9 @@ fn one_fewer<
 
 // What an arriving answer does to the set's transaction depends on its round. A Writeback goes on before anything that round two
 // sends.
-fn advance<
-    P: Protocol,
-    Q: Channel<Request>,
-    C: Channel<Command>,
-    R: Channel<Response>,
-    D: Channel<MemoryCommand>,
-    M: Memory,
->(parts: &mut Parts<P, Q, C, R, D, M>, set: u8, transaction: Transaction, response: Response)
-    requires { (length (D.Channel.waiting parts.old.memory_commands) + (writes_on response + memory_reads (starts (Some transaction))) ≤ 128) × (length (C.Channel.waiting parts.old.commands) + commands_sent (starts (Some transaction)) ≤ 128) }
-    ensures { (view P.Protocol.row Q.Channel.waiting C.Channel.waiting R.Channel.waiting D.Channel.waiting M.Memory.blocks parts.new) ≡ advance_step (pass_on (view P.Protocol.row Q.Channel.waiting C.Channel.waiting R.Channel.waiting D.Channel.waiting M.Memory.blocks parts.old) response) set (Some transaction) }
+fn advance<B: Board>(parts: &mut Parts<B>, set: u8, transaction: Transaction, response: Response)
+    requires { (length (B.MemoryCommands.waiting parts.old.memory_commands) + (writes_on response + memory_reads (starts (Some transaction))) ≤ 128) × (length (B.Commands.waiting parts.old.commands) + commands_sent (starts (Some transaction)) ≤ 128) }
+    ensures { ⟦<Parts<B> as Shown>⟧.machine parts.new ≡ advance_step (pass_on (⟦<Parts<B> as Shown>⟧.machine parts.old) response) set (Some transaction) }
 {
     match (transaction.round, response) {
         (
@@ -150,16 +126,9 @@ fn advance<
 }
 
 // The same where the set may have no transaction: then a Writeback still goes on.
-fn take_answer<
-    P: Protocol,
-    Q: Channel<Request>,
-    C: Channel<Command>,
-    R: Channel<Response>,
-    D: Channel<MemoryCommand>,
-    M: Memory,
->(parts: &mut Parts<P, Q, C, R, D, M>, set: u8, serving: Option<Transaction>, response: Response)
-    requires { (length (D.Channel.waiting parts.old.memory_commands) + (writes_on response + memory_reads (starts serving)) ≤ 128) × (length (C.Channel.waiting parts.old.commands) + commands_sent (starts serving) ≤ 128) }
-    ensures { (view P.Protocol.row Q.Channel.waiting C.Channel.waiting R.Channel.waiting D.Channel.waiting M.Memory.blocks parts.new) ≡ advance_step (pass_on (view P.Protocol.row Q.Channel.waiting C.Channel.waiting R.Channel.waiting D.Channel.waiting M.Memory.blocks parts.old) response) set serving }
+fn take_answer<B: Board>(parts: &mut Parts<B>, set: u8, serving: Option<Transaction>, response: Response)
+    requires { (length (B.MemoryCommands.waiting parts.old.memory_commands) + (writes_on response + memory_reads (starts serving)) ≤ 128) × (length (B.Commands.waiting parts.old.commands) + commands_sent (starts serving) ≤ 128) }
+    ensures { ⟦<Parts<B> as Shown>⟧.machine parts.new ≡ advance_step (pass_on (⟦<Parts<B> as Shown>⟧.machine parts.old) response) set serving }
 {
     match (serving, response) {
         (Some(transaction), _) => advance(parts, set, transaction, response),
@@ -176,15 +145,8 @@ fn take_answer<
 }
 
 // Whether what a response makes the directory send has room.
-fn has_room_to_start<
-    P: Protocol,
-    Q: Channel<Request>,
-    C: Channel<Command>,
-    R: Channel<Response>,
-    D: Channel<MemoryCommand>,
-    M: Memory,
->(parts: &Parts<P, Q, C, R, D, M>, response: Response, start: Option<Source>) -> bool
-    ensures { not result ≡ (nat_lt 128 (length (D.Channel.waiting parts.now.memory_commands) + (writes_on response + memory_reads start)) || nat_lt 128 (length (C.Channel.waiting parts.now.commands) + commands_sent start)) }
+fn has_room_to_start<B: Board>(parts: &Parts<B>, response: Response, start: Option<Source>) -> bool
+    ensures { not result ≡ (nat_lt 128 (length (B.MemoryCommands.waiting parts.now.memory_commands) + (writes_on response + memory_reads start)) || nat_lt 128 (length (B.Commands.waiting parts.now.commands) + commands_sent start)) }
 {
     if parts.memory_commands.len() + (writes_on(response) + memory_reads(start)) > 128 {
         return false;
@@ -193,15 +155,8 @@ fn has_room_to_start<
 }
 
 // The response that the pick shows arrives at the directory.
-pub fn deliver_response<
-    P: Protocol,
-    Q: Channel<Request>,
-    C: Channel<Command>,
-    R: Channel<Response>,
-    D: Channel<MemoryCommand>,
-    M: Memory,
->(parts: &mut Parts<P, Q, C, R, D, M>, pick: u8) -> Result<Answer, Refusal>
-    ensures { answered result (view P.Protocol.row Q.Channel.waiting C.Channel.waiting R.Channel.waiting D.Channel.waiting M.Memory.blocks parts.new) ≡ deliver_response (view P.Protocol.row Q.Channel.waiting C.Channel.waiting R.Channel.waiting D.Channel.waiting M.Memory.blocks parts.old) (R.Channel.chosen parts.old.responses pick) }
+pub fn deliver_response<B: Board>(parts: &mut Parts<B>, pick: u8) -> Result<Answer, Refusal>
+    ensures { answered result (⟦<Parts<B> as Shown>⟧.machine parts.new) ≡ deliver_response (⟦<Parts<B> as Shown>⟧.machine parts.old) (B.Responses.chosen parts.old.responses pick) }
 {
     match parts.responses.look(pick) {
         None => Err(Refusal::ChannelEmpty),

@@ -1,17 +1,15 @@
 ghost use Rattle.std.specs.Prelude.{◌≡◌, ◌<◌, true, false, length};
 ghost use Rattle.machine.specs.Machines.{with_count, one_more};
 ghost use Rattle.machine.specs.Acceptance.{fetch as fetch_step, begin_two, from_memory};
-ghost use Rattle.parts.specs.Views.{view};
 
 use crate::counts::count_up;
 use machine::transaction::{Job, Round, Source, Transaction};
 use memory::Memory;
 use messages::command::Command;
 use messages::memory_command::MemoryCommand;
-use messages::request::Request;
-use messages::response::Response;
+use parts::board::Board;
+use parts::shown::Shown;
 use parts::state::Parts;
-use protocols::protocol::Protocol;
 use wires::channel::Channel;
 
 // Whether round two asks the memory for the words, and so sends a memory command; else it sends a command.
@@ -23,16 +21,9 @@ pub(crate) fn from_memory(source: Source) -> bool
 
 // What round two sends: a memory read, a Wakeup for an upgrade, or a Transfer to the owner. A memory read and a write back are
 // awaited too.
-fn fetch<
-    P: Protocol,
-    Q: Channel<Request>,
-    C: Channel<Command>,
-    R: Channel<Response>,
-    D: Channel<MemoryCommand>,
-    M: Memory,
->(parts: &mut Parts<P, Q, C, R, D, M>, job: Job)
-    requires { ((from_memory job.source ≡ true → length (D.Channel.waiting parts.old.memory_commands) < 128)) × ((from_memory job.source ≡ false → length (C.Channel.waiting parts.old.commands) < 128)) }
-    ensures { (view P.Protocol.row Q.Channel.waiting C.Channel.waiting R.Channel.waiting D.Channel.waiting M.Memory.blocks parts.new) ≡ fetch_step (view P.Protocol.row Q.Channel.waiting C.Channel.waiting R.Channel.waiting D.Channel.waiting M.Memory.blocks parts.old) job job.source }
+fn fetch<B: Board>(parts: &mut Parts<B>, job: Job)
+    requires { ((from_memory job.source ≡ true → length (B.MemoryCommands.waiting parts.old.memory_commands) < 128)) × ((from_memory job.source ≡ false → length (B.Commands.waiting parts.old.commands) < 128)) }
+    ensures { ⟦<Parts<B> as Shown>⟧.machine parts.new ≡ fetch_step (⟦<Parts<B> as Shown>⟧.machine parts.old) job job.source }
 {
     let set = parts.directory.geometry.set_of(job.block);
     match job.source {
@@ -80,16 +71,9 @@ fn fetch<
 }
 
 // Round two begins.
-pub(crate) fn begin_two<
-    P: Protocol,
-    Q: Channel<Request>,
-    C: Channel<Command>,
-    R: Channel<Response>,
-    D: Channel<MemoryCommand>,
-    M: Memory,
->(parts: &mut Parts<P, Q, C, R, D, M>, job: Job)
-    requires { ((from_memory job.source ≡ true → length (D.Channel.waiting parts.old.memory_commands) < 128)) × ((from_memory job.source ≡ false → length (C.Channel.waiting parts.old.commands) < 128)) }
-    ensures { (view P.Protocol.row Q.Channel.waiting C.Channel.waiting R.Channel.waiting D.Channel.waiting M.Memory.blocks parts.new) ≡ begin_two (view P.Protocol.row Q.Channel.waiting C.Channel.waiting R.Channel.waiting D.Channel.waiting M.Memory.blocks parts.old) job }
+pub(crate) fn begin_two<B: Board>(parts: &mut Parts<B>, job: Job)
+    requires { ((from_memory job.source ≡ true → length (B.MemoryCommands.waiting parts.old.memory_commands) < 128)) × ((from_memory job.source ≡ false → length (B.Commands.waiting parts.old.commands) < 128)) }
+    ensures { ⟦<Parts<B> as Shown>⟧.machine parts.new ≡ begin_two (⟦<Parts<B> as Shown>⟧.machine parts.old) job }
 {
     fetch(parts, job);
     let set = parts.directory.geometry.set_of(job.block);

@@ -1,2 +1,2 @@
 pub mod Views
-pub mod Searches
+pub mod Arrivals

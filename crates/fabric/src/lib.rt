@@ -2,7 +2,7 @@
 #![tactic(auto)]
 
 pub mod build;
-mod lookup;
-pub mod orders;
+pub mod calls;
 pub mod questions;
+pub mod shown;
 pub mod state;

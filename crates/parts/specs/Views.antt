@@ -13,7 +13,7 @@ use Rattle.machine.specs.Machines.{Machine}
 use Rattle.tables.specs.Grids.{column, rows, grid}
 use Rattle.parts.specs.declared.state.Parts.{Parts}
 
-abbrev pub view : {P Q C R D M : Type 0} → (P → State → Row) → (Q → List Request) → (C → List Command) → (R → List Response) → (D → List MemoryCommand) → (M → ℕ → Words) → Parts P Q C R D M → Machine
+abbrev pub view : {B P Q C R D M : Type 0} → (P → State → Row) → (Q → List Request) → (C → List Command) → (R → List Response) → (D → List MemoryCommand) → (M → ℕ → Words) → Parts B P Q C R D M → Machine
 view p q c r d m f = record {
   geometry = sizes f.directory.geometry;
   rows = p f.protocol;

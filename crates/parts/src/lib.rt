@@ -1,4 +1,7 @@
-// The parts of a fabric, held together. Only the steps and the fabric itself use this crate: the fabric keeps its parts to itself.
+// The parts of a fabric, held together, and what they are built over. Only the steps and the fabric itself use the parts: the fabric
+// keeps them to itself.
 #![tactic(auto)]
 
+pub mod board;
+pub mod shown;
 pub mod state;

@@ -1,3 +1,4 @@
+use crate::board::Board;
 use directory::state::Directory;
 use machine::holding::Way;
 use machine::order::Order;
@@ -7,19 +8,19 @@ use tables::by_set::BySet;
 use tables::by_set_cache::BySetCache;
 use tables::by_way::ByWay;
 
-// What a fabric is made of, over a protocol P, channels Q, C, R and D for requests, commands, responses and memory commands, and a memory M.
+// What a fabric is made of.
 #[derive(Drop)]
-pub struct Parts<P, Q, C, R, D, M> {
+pub struct Parts<B: Board> {
     pub directory: Directory,
-    pub protocol: P,
+    pub protocol: B::Protocol,
     pub ways: ByWay<Way>,
     pub kept: ByCache<Option<Order>>,
     pub turns: BySetCache<u8>,
     pub serving: BySet<Option<Transaction>>,
     pub counts: BySet<u16>,
-    pub memory: M,
-    pub requests: Q,
-    pub commands: C,
-    pub responses: R,
-    pub memory_commands: D,
+    pub memory: B::Memory,
+    pub requests: B::Requests,
+    pub commands: B::Commands,
+    pub responses: B::Responses,
+    pub memory_commands: B::MemoryCommands,
 }

@@ -17,9 +17,9 @@ use Rattle.machine.specs.Machines.{Machine}
 use Rattle.machine.specs.Outcomes.{Said}
 use Rattle.machine.specs.Runs.{Call, delivers, turns}
 use Rattle.machine.specs.Picking.{Picks, arriving, shown_on, heard}
-use Rattle.running.specs.declared.state.Fabric.{Fabric}
-use Rattle.running.specs.Arrivals.{index_on, call_at}
-use Rattle.running.specs.Views.{view}
+use Rattle.fabric.specs.declared.state.Fabric.{Fabric}
+use Rattle.fabric.specs.Arrivals.{index_on, call_at}
+use Rattle.fabric.specs.Views.{view}
 use Rattle.runs.specs.Following.{Ran}
 use Rattle.runs.proofs.Hearing.{follows_heard}
 use Rattle.player.specs.Plays.{rows_of}
@@ -36,23 +36,23 @@ rows_of_code Mosif = refl
 rows_of_code Moesi = refl
 rows_of_code Moesif = refl
 
-module _ {P Q C R D M : Type 0} (row : P → State → Row) (q : Chooser Request Q) (c : Chooser Command C) (r : Chooser Response R) (d : Chooser MemoryCommand D) (blocks : M → ℕ → Words) (k : Picks) (picked : PickedAs k q c r d) where
-  abbrev shows : Fabric P Q C R D M → Machine
+module _ {B P Q C R D M : Type 0} (row : P → State → Row) (q : Chooser Request Q) (c : Chooser Command C) (r : Chooser Response R) (d : Chooser MemoryCommand D) (blocks : M → ℕ → Words) (k : Picks) (picked : PickedAs k q c r d) where
+  abbrev shows : Fabric B P Q C R D M → Machine
   shows = view row q.waiting c.waiting r.waiting d.waiting blocks
 
-  abbrev arrives : Fabric P Q C R D M → FabricCall → Call
+  abbrev arrives : Fabric B P Q C R D M → FabricCall → Call
   arrives = call_at q.chosen c.chosen r.chosen d.chosen
 
-  same_index : (f : Fabric P Q C R D M) (channel p : ℕ) → index_on q.chosen c.chosen r.chosen f channel p ≡ shown_on k (shows f) channel p
+  same_index : (f : Fabric B P Q C R D M) (channel p : ℕ) → index_on q.chosen c.chosen r.chosen f channel p ≡ shown_on k (shows f) channel p
   same_index f zero p = picked.requests f.parts.requests p
   same_index f (suc zero) p = picked.commands f.parts.commands p
   same_index f (suc (suc n)) p = picked.responses f.parts.responses p
 
-  same_call : (f : Fabric P Q C R D M) (x : FabricCall) → arrives f x ≡ arriving k (shows f) x
+  same_call : (f : Fabric B P Q C R D M) (x : FabricCall) → arrives f x ≡ arriving k (shows f) x
   same_call f (made.Order cache o) = refl
   same_call f (made.Deliver channel p) = ap (delivers channel) (same_index f channel p)
   same_call f (made.MemoryTurn p) = ap turns (picked.memory_commands f.parts.memory_commands p)
 
   -- the answers of a run are the machine's, under these picks
-  pub ran_heard : (start : Machine) (calls : List FabricCall) (answers : List Said) (f : Fabric P Q C R D M) → Ran shows arrives start calls answers f → answers ≡ heard k start calls
+  pub ran_heard : (start : Machine) (calls : List FabricCall) (answers : List Said) (f : Fabric B P Q C R D M) → Ran shows arrives start calls answers f → answers ≡ heard k start calls
   ran_heard start calls answers f x = sym x.answered ∙ follows_heard shows arrives k same_call start calls x.events f x.follows

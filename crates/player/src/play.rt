@@ -16,8 +16,9 @@ use messages::command::Command;
 use messages::memory_command::MemoryCommand;
 use messages::request::Request;
 use messages::response::Response;
+use parts::board::{Board, Wiring};
 use protocols::protocol_kind::ProtocolKind;
-use runs::run::{Finished, run};
+use runs::run::run;
 use sheet::head::Head;
 use sheet::kinds::{ChannelKind, MemoryKind};
 use sheet::sheets::{CheckedSheet, UncheckedSheet};
@@ -29,26 +30,24 @@ use wires::unordered::Unordered;
 
 // The lines of a sheet whose head is good, played over channels and a memory of these kinds: the records are read once to make the
 // run, and once more to print what each gave.
-fn play_on<
-    Q: Channel<Request> + Drop,
-    C: Channel<Command> + Drop,
-    R: Channel<Response> + Drop,
-    D: Channel<MemoryCommand> + Drop,
-    M: Memory + Drop,
->(heap: Global, head: &Head, sheet: &CheckedSheet) -> Result<Vec<u8>, AllocError>
-    ensures { IfOk result (λ v. (k : Picks) → PickedAs k (record { waiting = Q.Channel.waiting; chosen = Q.Channel.chosen }) (record { waiting = C.Channel.waiting; chosen = C.Channel.chosen }) (record { waiting = R.Channel.waiting; chosen = R.Channel.chosen }) (record { waiting = D.Channel.waiting; chosen = D.Channel.chosen }) → v.items ≡ lines_by k (head_codes head.now) (reading_of sheet.now.bytes.items)) }
+fn play_on<B: Board<Protocol = ProtocolKind>>(
+    heap: Global,
+    head: &Head,
+    sheet: &CheckedSheet,
+) -> Result<Vec<u8>, AllocError>
+where
+    B::Requests: Drop,
+    B::Commands: Drop,
+    B::Responses: Drop,
+    B::MemoryCommands: Drop,
+    B::Memory: Drop,
+    ensures { IfOk result (λ v. (k : Picks) → PickedAs k (record { waiting = B.Requests.waiting; chosen = B.Requests.chosen }) (record { waiting = B.Commands.waiting; chosen = B.Commands.chosen }) (record { waiting = B.Responses.waiting; chosen = B.Responses.chosen }) (record { waiting = B.MemoryCommands.waiting; chosen = B.MemoryCommands.chosen }) → v.items ≡ lines_by k (head_codes head.now) (reading_of sheet.now.bytes.items)) }
 {
     let blocks = head.geometry.blocks();
-    let mut memory = M::new();
+    let mut memory = B::Memory::new();
     let mut reader = sheet.records();
     let calls = load_records(heap, &mut reader, blocks, &mut memory)?;
-    let done: Finished<ProtocolKind, Q, C, R, D, M> = run(
-        heap,
-        head.geometry,
-        head.protocol,
-        memory,
-        calls.as_slice(),
-    )?;
+    let done = run::<B>(heap, head.geometry, head.protocol, memory, calls.as_slice())?;
     let mut again = sheet.records();
     record_lines(heap, &mut again, blocks, done.answers.as_slice())
 }
@@ -63,25 +62,34 @@ fn play_over<M: Memory + Drop>(
 {
     match head.channels {
         ChannelKind::Unordered => play_on::<
-            Unordered<Request>,
-            Unordered<Command>,
-            Unordered<Response>,
-            Unordered<MemoryCommand>,
-            M,
+            Wiring<
+                ProtocolKind,
+                Unordered<Request>,
+                Unordered<Command>,
+                Unordered<Response>,
+                Unordered<MemoryCommand>,
+                M,
+            >,
         >(heap, head, sheet),
         ChannelKind::Paired => play_on::<
-            Paired<Request>,
-            Paired<Command>,
-            Paired<Response>,
-            Paired<MemoryCommand>,
-            M,
+            Wiring<
+                ProtocolKind,
+                Paired<Request>,
+                Paired<Command>,
+                Paired<Response>,
+                Paired<MemoryCommand>,
+                M,
+            >,
         >(heap, head, sheet),
         ChannelKind::SingleFile => play_on::<
-            SingleFile<Request>,
-            SingleFile<Command>,
-            SingleFile<Response>,
-            SingleFile<MemoryCommand>,
-            M,
+            Wiring<
+                ProtocolKind,
+                SingleFile<Request>,
+                SingleFile<Command>,
+                SingleFile<Response>,
+                SingleFile<MemoryCommand>,
+                M,
+            >,
         >(heap, head, sheet),
     }
 }

@@ -8,7 +8,7 @@ use Rattle.directory_steps.proofs.requests.accept_at_once.Goals as goal
 
 pub returns : goal.returns
 returns g c =
-    let before : Machine = view g.P.Protocol.row g.Q.Channel.waiting g.C.Channel.waiting g.R.Channel.waiting g.D.Channel.waiting g.M.Memory.blocks c.args.parts.now in
+    let before : Machine = view g.B.Protocol.Protocol.row g.B.Requests.Channel.waiting g.B.Commands.Channel.waiting g.B.Responses.Channel.waiting g.B.MemoryCommands.Channel.waiting g.B.Memory.Memory.blocks c.args.parts.now in
     let job = c.args.job in
     let room : cond (from_memory job.source) (leb 128 (length before.memory_commands)) (leb 128 (length before.commands)) ≡ false =
     sym c.has_room_for_two.ensures ∙ ap not c.if-not-has_room_for_two.false in

@@ -33,22 +33,22 @@ returns g c =
     let again : reading (left c.records-again.result) ≡ r = ap reading c.records-again.ensures in
     let blocks : c.blocks-blocks.result ≡ h.blocks = c.blocks-blocks.ensures in
     let loaded = c.in_ok-calls.ensures in
-    let content : g.M.Memory.blocks c.load_records.new.memory ≡ content_of h xs =
+    let content : g.B.Memory.Memory.blocks c.load_records.new.memory ≡ content_of h xs =
     loaded.1
-    ∙ ap (λ (n : ℕ). starting_content n (g.M.Memory.blocks c.new-memory.result) (items_in (reading (left c.records-reader.result)))) blocks
+    ∙ ap (λ (n : ℕ). starting_content n (g.B.Memory.Memory.blocks c.new-memory.result) (items_in (reading (left c.records-reader.result)))) blocks
     ∙ ap (λ (m : ℕ → Words). starting_content h.blocks m (items_in (reading (left c.records-reader.result)))) c.new-memory.ensures
     ∙ ap (λ (l : Reading). content_of h (items_in l)) first in
-    let start : new (sizes head.geometry) (read_row head.protocol) (g.M.Memory.blocks c.load_records.new.memory) ≡ start_of h xs =
-    ap (λ (rows : State → Row). new (sizes head.geometry) rows (g.M.Memory.blocks c.load_records.new.memory)) (rows_of_code head.protocol)
+    let start : new (sizes head.geometry) (read_row head.protocol) (g.B.Memory.Memory.blocks c.load_records.new.memory) ≡ start_of h xs =
+    ap (λ (rows : State → Row). new (sizes head.geometry) rows (g.B.Memory.Memory.blocks c.load_records.new.memory)) (rows_of_code head.protocol)
     ∙ ap (λ (m : ℕ → Words). new (sizes head.geometry) (rows_of h.protocol) m) content in
     let calls : c.as_slice.result.now ≡ calls_in xs = c.as_slice.ensures.value ∙ loaded.0 ∙ ap (λ (l : Reading). calls_in (items_in l)) first in
     IfOk-weaker c.record_lines.result _ _
     (λ v e k picked.
     let answers : map said c.as_slice-2.result.now ≡ answers_by k h xs =
     ap (map said) c.as_slice-2.ensures.value
-    ∙ ran_heard read_row (record { waiting = g.Q.Channel.waiting; chosen = g.Q.Channel.chosen }) (record { waiting = g.C.Channel.waiting; chosen = g.C.Channel.chosen })
-    (record { waiting = g.R.Channel.waiting; chosen = g.R.Channel.chosen }) (record { waiting = g.D.Channel.waiting; chosen = g.D.Channel.chosen }) g.M.Memory.blocks k picked
-    (new (sizes head.geometry) (read_row head.protocol) (g.M.Memory.blocks c.load_records.new.memory)) c.as_slice.result.now (all_said (vec_items c.in_ok-done.done.answers))
+    ∙ ran_heard read_row (record { waiting = g.B.Requests.Channel.waiting; chosen = g.B.Requests.Channel.chosen }) (record { waiting = g.B.Commands.Channel.waiting; chosen = g.B.Commands.Channel.chosen })
+    (record { waiting = g.B.Responses.Channel.waiting; chosen = g.B.Responses.Channel.chosen }) (record { waiting = g.B.MemoryCommands.Channel.waiting; chosen = g.B.MemoryCommands.Channel.chosen }) g.B.Memory.Memory.blocks k picked
+    (new (sizes head.geometry) (read_row head.protocol) (g.B.Memory.Memory.blocks c.load_records.new.memory)) c.as_slice.result.now (all_said (vec_items c.in_ok-done.done.answers))
     c.in_ok-done.done.fabric c.in_ok-done.ensures
     ∙ ap (λ (m : Machine). heard k m c.as_slice.result.now) start
     ∙ ap (λ (l : List FabricCall). heard k (start_of h xs) l) calls in

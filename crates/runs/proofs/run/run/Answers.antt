@@ -7,8 +7,8 @@ use Rattle.machine.specs.declared.order.Order.TheVariants.{Load}
 use Rattle.machine.specs.Machines.{Machine, new}
 use Rattle.machine.specs.Outcomes.{Said, said}
 use Rattle.machine.specs.Runs.{Event}
-use Rattle.running.specs.Arrivals.{call_at}
-use Rattle.running.specs.Views.{view}
+use Rattle.fabric.specs.Arrivals.{call_at}
+use Rattle.fabric.specs.Views.{view}
 use Rattle.runs.specs.Following.{Follows, all_said}
 use Rattle.runs.proofs.Follow.{follows_next, follows_coherent}
 use Rattle.runs.proofs.Premises.{geometry_bounded, rows_lawful}
@@ -19,8 +19,8 @@ loop-call-init g c = ([], refl, sym (ap all_said c.new-answers.ensures.items))
 
 pub loop-call-preserved : goal.loop-call-preserved
 loop-call-preserved g c =
-    let shows = view g.P.Protocol.row g.Q.Channel.waiting g.C.Channel.waiting g.R.Channel.waiting g.D.Channel.waiting g.M.Memory.blocks in
-    let arrives = call_at g.Q.Channel.chosen g.C.Channel.chosen g.R.Channel.chosen g.D.Channel.chosen in
+    let shows = view g.B.Protocol.Protocol.row g.B.Requests.Channel.waiting g.B.Commands.Channel.waiting g.B.Responses.Channel.waiting g.B.MemoryCommands.Channel.waiting g.B.Memory.Memory.blocks in
+    let arrives = call_at g.B.Requests.Channel.chosen g.B.Commands.Channel.chosen g.B.Responses.Channel.chosen g.B.MemoryCommands.Channel.chosen in
     let calls = c.args.calls.now in
     let i = c.loop-call.call-index in
     let events : List Event = c.loop-call.invariant.0 in
@@ -33,9 +33,9 @@ loop-call-preserved g c =
 
 pub returns : goal.returns
 returns g c =
-    let shows = view g.P.Protocol.row g.Q.Channel.waiting g.C.Channel.waiting g.R.Channel.waiting g.D.Channel.waiting g.M.Memory.blocks in
-    let arrives = call_at g.Q.Channel.chosen g.C.Channel.chosen g.R.Channel.chosen g.D.Channel.chosen in
-    let start : Machine = new (sizes c.args.geometry) (g.P.Protocol.row c.args.protocol) (g.M.Memory.blocks c.args.memory) in
+    let shows = view g.B.Protocol.Protocol.row g.B.Requests.Channel.waiting g.B.Commands.Channel.waiting g.B.Responses.Channel.waiting g.B.MemoryCommands.Channel.waiting g.B.Memory.Memory.blocks in
+    let arrives = call_at g.B.Requests.Channel.chosen g.B.Commands.Channel.chosen g.B.Responses.Channel.chosen g.B.MemoryCommands.Channel.chosen in
+    let start : Machine = new (sizes c.args.geometry) (g.B.Protocol.Protocol.row c.args.protocol) (g.B.Memory.Memory.blocks c.args.memory) in
     let events : List Event = c.loop-call.invariant.0 in
     let all : take c.loop-call.call-index c.args.calls.now ≡ c.args.calls.now = take_all c.loop-call.call-index c.args.calls.now c.loop-call-test.false in
     let follows : Follows shows arrives start (reverse c.args.calls.now) events c.loop-call.fabric =
@@ -45,8 +45,8 @@ returns g c =
       events = events;
       follows = follows;
       answered = c.loop-call.invariant.2;
-      coherent = follows_coherent shows arrives (sizes c.args.geometry) (g.P.Protocol.row c.args.protocol) (g.M.Memory.blocks c.args.memory) c.coherent.ensures
+      coherent = follows_coherent shows arrives (sizes c.args.geometry) (g.B.Protocol.Protocol.row c.args.protocol) (g.B.Memory.Memory.blocks c.args.memory) c.coherent.ensures
           (geometry_bounded c.args.geometry)
-          (rows_lawful (g.P.Protocol.row c.args.protocol) (g.met.P.Protocol.unowned c.args.protocol) (g.met.P.Protocol.handover c.args.protocol) (g.met.P.Protocol.exclusive c.args.protocol) (g.met.P.Protocol.dirty c.args.protocol))
+          (rows_lawful (g.B.Protocol.Protocol.row c.args.protocol) (g.met.B.Protocol.Protocol.unowned c.args.protocol) (g.met.B.Protocol.Protocol.handover c.args.protocol) (g.met.B.Protocol.Protocol.exclusive c.args.protocol) (g.met.B.Protocol.Protocol.dirty c.args.protocol))
           (reverse c.args.calls.now) events c.loop-call.fabric follows;
     }
