@@ -2,5 +2,4 @@
 #![tactic(auto)]
 
 pub mod commands;
-mod lookup;
 pub mod orders;

@@ -1,8 +1,7 @@
 ghost use Rattle.std.specs.Prelude.{◌≡◌, suc, ◌<◌, length, if◌then◌else◌, Ok, nat_lt};
-ghost use Rattle.machine.specs.Orders.{finish as finish_step, ask_for, ask_for_new, miss as miss_step, order_at, holding_way, order as order_step};
+ghost use Rattle.machine.specs.Orders.{finish as finish_step, ask_for, ask_for_new, miss as miss_step, order_at, holding_way, empty_way, order as order_step};
 ghost use Rattle.machine.specs.Outcomes.{answered};
 
-use crate::lookup::{Wanted, lowest_way};
 use bedrock::refusal::Refusal;
 use bedrock::words::Words;
 use machine::answer::Answer;
@@ -70,13 +69,18 @@ fn holding_way<B: Board>(parts: &Parts<B>, cache: u8, block: u16) -> Option<u8>
     ensures { result ≡ holding_way (⟦<Parts<B> as Shown>⟧.machine parts.now) cache block }
 {
     let set = parts.directory.geometry.set_of(block);
-    lowest_way(
-        &parts.ways,
-        parts.directory.geometry.ways(),
-        set,
-        cache,
-        Wanted::Block(block),
-    )
+    (0..parts.directory.geometry.ways()).find(|way| {
+        let held = parts.ways.get(Way::empty(), set, cache, *way);
+        held.state.held() && held.block == block
+    })
+}
+
+// The lowest way of a cache in a set that is in I.
+fn empty_way<B: Board>(parts: &Parts<B>, cache: u8, set: u8) -> Option<u8>
+    ensures { result ≡ empty_way (⟦<Parts<B> as Shown>⟧.machine parts.now) set cache }
+{
+    (0..parts.directory.geometry.ways())
+        .find(|way| !parts.ways.get(Way::empty(), set, cache, *way).state.held())
 }
 
 // The cache keeps the order and waits, and a request goes out that names the way.
@@ -99,13 +103,7 @@ fn ask_for_new<B: Board>(parts: &mut Parts<B>, cache: u8, asked: Order, set: u8)
     requires { length (B.Requests.waiting parts.old.requests) < 128 }
     ensures { answered (Ok result) (⟦<Parts<B> as Shown>⟧.machine parts.new) ≡ ask_for_new (⟦<Parts<B> as Shown>⟧.machine parts.old) cache asked set }
 {
-    match lowest_way(
-        &parts.ways,
-        parts.directory.geometry.ways(),
-        set,
-        cache,
-        Wanted::Empty,
-    ) {
+    match empty_way(parts, cache, set) {
         Some(way) => ask_for(parts, cache, asked, way),
         None => {
             let turn = parts.turns.get(0, set, cache);

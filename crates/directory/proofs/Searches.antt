@@ -1,5 +1,5 @@
--- A search from 0 up finds the lowest.
-use Rattle.std.proofs.Common.{◌≡◌, ℕ, zero, suc, ◌+◌, ◌<◌, Bool, true, false, cond, ◌⊎◌, Some, None, Option, sym, refl, ap, ◌∙◌, inl, inr, add-one, arith}
+-- What `find` over the numbers below n answers is the lowest that passes.
+use Rattle.std.proofs.Common.{◌≡◌, ℕ, zero, suc, ◌<◌, ◌≤◌, Bool, true, false, cond, ◌⊎◌, MatchOption, Some, None, Option, sym, refl, ap, ◌∙◌, inl, inr, arith}
 use Rattle.std.proofs.lemmas.Bool.{cases_eq}
 use Rattle.machine.specs.Tables.{lowest}
 
@@ -16,22 +16,23 @@ lowest_step test n = go (lowest test n)
     go None = refl
 
 module _ (test : ℕ → Bool) where
-  -- one number more that fails
-  pub lowest_on : (k : ℕ) → lowest test k ≡ None → test k ≡ false → lowest test (k + 1) ≡ None
-  lowest_on k none fails = rw add-one (lowest_step test k ∙ ap (further test k) none ∙ rw fails refl)
+  -- none below n passes
+  none_below : (n : ℕ) → ((k : ℕ) → 0 ≤ k → k < n → test k ≡ false) → lowest test n ≡ None
+  none_below zero fails = refl
+  none_below (suc n) fails =
+      lowest_step test n ∙ ap (further test n) (none_below n (λ k a b. fails k a (omega arith))) ∙ rw (fails n (omega arith) (omega arith)) refl
 
-  next : (k : ℕ) → lowest test k ≡ None → test k ≡ true → lowest test (suc k) ≡ Some k
-  next k none passes = lowest_step test k ∙ ap (further test k) none ∙ rw passes refl
+  last : (n i : ℕ) → i < suc n → test i ≡ true → ((k : ℕ) → 0 ≤ k → k < i → test k ≡ false) → (i < n → lowest test n ≡ Some i) → (i ≡ n) ⊎ (i ≡ n → ⊥) → lowest test (suc n) ≡ Some i
+  last n i h passes fails before (inl e) = lowest_step test n ∙ ap (further test n) (none_below n (λ k a b. fails k a (omega arith))) ∙ rw (sym e, passes) refl
+  last n i h passes fails before (inr ne) = lowest_step test n ∙ ap (further test n) (before (omega arith))
 
-  last : (n k : ℕ) → lowest test k ≡ None → test k ≡ true → (k < n → lowest test n ≡ Some k) → k < suc n → (k ≡ n) ⊎ (k ≡ n → ⊥) → lowest test (suc n) ≡ Some k
-  last n k none passes before h (inl e) = ap (λ x. lowest test (suc x)) (sym e) ∙ next k none passes
-  last n k none passes before h (inr ne) = lowest_step test n ∙ ap (further test n) (before (omega arith))
+  -- i passes, and none before it
+  first_at : (n i : ℕ) → i < n → test i ≡ true → ((k : ℕ) → 0 ≤ k → k < i → test k ≡ false) → lowest test n ≡ Some i
+  first_at zero i h passes fails = absurd (omega arith)
+  first_at (suc n) i h passes fails = last n i h passes fails (λ l. first_at n i l passes fails) (cases_eq i n)
 
--- the first that passes stays the lowest
-pub lowest_found : (test : ℕ → Bool) (n k : ℕ) → k < n → lowest test k ≡ None → test k ≡ true → lowest test n ≡ Some k
-lowest_found test zero k h none passes = absurd (omega arith)
-lowest_found test (suc n) k h none passes = last test n k none passes (λ l. lowest_found test n k l none passes) h (cases_eq k n)
-
--- a search that went through found none
-pub lowest_nowhere : (test : ℕ → Bool) (n k : ℕ) → k ≡ n → lowest test k ≡ None → None ≡ lowest test n
-lowest_nowhere test n k e none = sym none ∙ ap (lowest test) e
+pub lowest_from_find : (test : ℕ → Bool) (n : ℕ) (r : Option ℕ)
+    → MatchOption r ((k : ℕ) → 0 ≤ k → k < n → test k ≡ false) (λ i. (0 ≤ i) × (i < n) × (test i ≡ true) × ((k : ℕ) → 0 ≤ k → k < i → test k ≡ false))
+    → r ≡ lowest test n
+lowest_from_find test n None h = sym (none_below test n h)
+lowest_from_find test n (Some i) h = sym (first_at test n i h.1 h.2 h.3)

@@ -30,12 +30,7 @@ impl Directory {
         ensures { result ≡ shown_way (alone self.now) cache block }
     {
         let set = self.geometry.set_of(block);
-        for way in 0..self.geometry.ways() {
-            if shows(self.entry(set, cache, way), block) {
-                return Some(way);
-            }
-        }
-        None
+        (0..self.geometry.ways()).find(|way| shows(self.entry(set, cache, *way), block))
     }
 
     // The state in which it shows a cache with a block: I where it shows it without.
@@ -52,24 +47,14 @@ impl Directory {
     fn owner(&self, block: u16) -> Option<u8>
         ensures { result ≡ owner (alone self.now) block }
     {
-        for cache in 0..self.geometry.caches() {
-            if self.shown_state(cache, block).owning() {
-                return Some(cache);
-            }
-        }
-        None
+        (0..self.geometry.caches()).find(|cache| self.shown_state(*cache, block).owning())
     }
 
     // The lowest cache that shares a block.
     fn sharer(&self, block: u16) -> Option<u8>
         ensures { result ≡ lowest (λ c. sharing (shown_state (alone self.now) c block)) self.now.geometry.caches }
     {
-        for cache in 0..self.geometry.caches() {
-            if self.shown_state(cache, block).same(State::S) {
-                return Some(cache);
-            }
-        }
-        None
+        (0..self.geometry.caches()).find(|cache| self.shown_state(*cache, block).same(State::S))
     }
 
     // The state of a block whose owner was looked up: without an owner S where a cache shares it, else I.

@@ -1,26 +1,14 @@
-use Rattle.std.proofs.Common.{◌≡◌, true, false, sym, ap, ◌∙◌, arith}
-use Rattle.machine.specs.Directory.{sharing}
-use Rattle.directory.proofs.Tests.{shares}
-use Rattle.directory.proofs.Searches.{lowest_on, lowest_found, lowest_nowhere}
+use Rattle.std.proofs.Common.{◌≡◌, ℕ, Bool, true, false, ap, ◌∙◌, rules}
+use Rattle.std.proofs.lemmas.Iterator.{first_from_Range}
+use Rattle.machine.specs.Directory.{shown_state, sharing}
+use Rattle.machine.specs.Tables.{lowest}
+use Rattle.directory.specs.Alone.{alone}
+use Rattle.directory.proofs.Searches.{lowest_from_find}
 use Rattle.directory.proofs.state.Directory.sharer.Goals as goal
-
-pub returns-then-same : goal.returns-then-same
-returns-then-same c =
-    let d = c.args.self.now in
-    let b = c.args.block in
-    let k = c.loop-cache.cache in
-    let passes : shares d b k ≡ true = sym (ap sharing c.shown_state.ensures) ∙ sym c.same.ensures ∙ c.if-same.true in
-    sym (lowest_found (shares d b) d.geometry.caches k (omega arith) c.loop-cache.invariant passes)
-
-pub loop-cache-preserved : goal.loop-cache-preserved
-loop-cache-preserved c =
-    let d = c.args.self.now in
-    let b = c.args.block in
-    let k = c.loop-cache.cache in
-    let fails : shares d b k ≡ false = sym (ap sharing c.shown_state.ensures) ∙ sym c.same.ensures ∙ c.if-same.false in
-    lowest_on (shares d b) k c.loop-cache.invariant fails
 
 pub returns : goal.returns
 returns c =
-    let d = c.args.self.now in
-    lowest_nowhere (shares d c.args.block) d.geometry.caches c.loop-cache.cache (omega arith) c.loop-cache.invariant
+    let shares : ℕ → Bool = λ k. sharing (shown_state (alone c.args.self.now) k c.args.block) in
+    lowest_from_find shares c.caches.result c.find.result
+    (first_from_Range _ _ _ _ (λ k. shares k ≡ true) (λ k. shares k ≡ false) c.find.ensures.ran (λ k q p. search rules) (λ k q p. search rules))
+    ∙ ap (lowest shares) c.caches.ensures
