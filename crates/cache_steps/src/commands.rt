@@ -17,6 +17,14 @@ use parts::state::Parts;
 use protocols::state::State;
 use wires::channel::Channel;
 
+// A way of a cache, and the block that it holds or is to hold.
+#[derive(Clone, Copy)]
+struct Target {
+    cache: u8,
+    block: u16,
+    way: u8,
+}
+
 // What a cache writes back, judged by the state that the way was in.
 fn given_back(cache: u8, block: u16, held: Way) -> Response
     ensures { result ≡ given_back cache block held }
@@ -49,34 +57,29 @@ fn sends_on(command: Command) -> bool
 }
 
 // The requestor has the block's words in a state: the kept order is carried out, the wait ends, and Coherence Ack goes out.
-fn fill<B: Board>(
-    parts: &mut Parts<B>,
-    cache: u8,
-    block: u16,
-    way: u8,
-    state: State,
-    words: Words,
-) -> Answer
+fn fill<B: Board>(parts: &mut Parts<B>, at: Target, state: State, words: Words) -> Answer
     requires { length (B.Responses.waiting parts.old.responses) < 128 }
-    ensures { answered (Ok result) (⟦<Parts<B> as Shown>⟧.machine parts.new) ≡ fill_step (⟦<Parts<B> as Shown>⟧.machine parts.old) cache block way state words }
+    ensures { answered (Ok result) (⟦<Parts<B> as Shown>⟧.machine parts.new) ≡ fill_step (⟦<Parts<B> as Shown>⟧.machine parts.old) at.cache at.block at.way state words }
 {
+    let Target { cache, block, way } = at;
     let _ = parts.responses.add(Response::CoherenceAck { cache, block });
     match parts.kept.get(None, cache) {
         None => Answer::MovedOn,
         Some(asked) => {
             parts.kept.put(None, cache, None);
-            let set = parts.directory.geometry.set_of(block);
+            let set = parts.home(block);
             finish(parts, set, cache, way, state, words, asked)
         }
     }
 }
 
 // The way goes to I, and what it held is written back.
-fn write_back<B: Board>(parts: &mut Parts<B>, cache: u8, block: u16, way: u8) -> Answer
+fn write_back<B: Board>(parts: &mut Parts<B>, at: Target) -> Answer
     requires { length (B.Responses.waiting parts.old.responses) < 128 }
-    ensures { answered (Ok result) (⟦<Parts<B> as Shown>⟧.machine parts.new) ≡ obey_step (⟦<Parts<B> as Shown>⟧.machine parts.old) (SetStateWriteback cache block way) }
+    ensures { answered (Ok result) (⟦<Parts<B> as Shown>⟧.machine parts.new) ≡ obey_step (⟦<Parts<B> as Shown>⟧.machine parts.old) (SetStateWriteback at.cache at.block at.way) }
 {
-    let set = parts.directory.geometry.set_of(block);
+    let Target { cache, block, way } = at;
+    let set = parts.home(block);
     let held = parts.ways.get(Way::empty(), set, cache, way);
     parts.ways.put(Way::empty(), set, cache, way, Way::empty());
     let _ = parts.responses.add(given_back(cache, block, held));
@@ -84,11 +87,12 @@ fn write_back<B: Board>(parts: &mut Parts<B>, cache: u8, block: u16, way: u8) ->
 }
 
 // The way goes to I.
-fn invalidate<B: Board>(parts: &mut Parts<B>, cache: u8, block: u16, way: u8) -> Answer
+fn invalidate<B: Board>(parts: &mut Parts<B>, at: Target) -> Answer
     requires { length (B.Responses.waiting parts.old.responses) < 128 }
-    ensures { answered (Ok result) (⟦<Parts<B> as Shown>⟧.machine parts.new) ≡ obey_step (⟦<Parts<B> as Shown>⟧.machine parts.old) (Invalidate cache block way) }
+    ensures { answered (Ok result) (⟦<Parts<B> as Shown>⟧.machine parts.new) ≡ obey_step (⟦<Parts<B> as Shown>⟧.machine parts.old) (Invalidate at.cache at.block at.way) }
 {
-    let set = parts.directory.geometry.set_of(block);
+    let Target { cache, block, way } = at;
+    let set = parts.home(block);
     parts.ways.put(Way::empty(), set, cache, way, Way::empty());
     let _ = parts
         .responses
@@ -99,9 +103,7 @@ fn invalidate<B: Board>(parts: &mut Parts<B>, cache: u8, block: u16, way: u8) ->
 // The owner's words go to the requestor, and the owner takes its next state; if told to, it also writes back.
 fn transfer<B: Board>(
     parts: &mut Parts<B>,
-    cache: u8,
-    block: u16,
-    way: u8,
+    at: Target,
     requestor: u8,
     requestor_way: u8,
     owner_next: State,
@@ -109,9 +111,10 @@ fn transfer<B: Board>(
     writeback: bool,
 ) -> Answer
     requires { (length (B.Commands.waiting parts.old.commands) < 128) × ((writeback ≡ true → length (B.Responses.waiting parts.old.responses) < 128)) }
-    ensures { answered (Ok result) (⟦<Parts<B> as Shown>⟧.machine parts.new) ≡ obey_step (⟦<Parts<B> as Shown>⟧.machine parts.old) (Transfer cache block way requestor requestor_way owner_next requestor_next writeback) }
+    ensures { answered (Ok result) (⟦<Parts<B> as Shown>⟧.machine parts.new) ≡ obey_step (⟦<Parts<B> as Shown>⟧.machine parts.old) (Transfer at.cache at.block at.way requestor requestor_way owner_next requestor_next writeback) }
 {
-    let set = parts.directory.geometry.set_of(block);
+    let Target { cache, block, way } = at;
+    let set = parts.home(block);
     let held = parts.ways.get(Way::empty(), set, cache, way);
     parts.ways.put(
         Way::empty(),
@@ -141,8 +144,14 @@ fn obey<B: Board>(parts: &mut Parts<B>, command: Command) -> Answer
     ensures { answered (Ok result) (⟦<Parts<B> as Shown>⟧.machine parts.new) ≡ obey_step (⟦<Parts<B> as Shown>⟧.machine parts.old) command }
 {
     match command {
-        Command::Invalidate { cache, block, way } => invalidate(parts, cache, block, way),
-        Command::SetStateWriteback { cache, block, way } => write_back(parts, cache, block, way),
+        Command::Invalidate { cache, block, way } => invalidate(
+            parts,
+            Target { cache, block, way },
+        ),
+        Command::SetStateWriteback { cache, block, way } => write_back(
+            parts,
+            Target { cache, block, way },
+        ),
         Command::Transfer {
             cache,
             block,
@@ -154,9 +163,7 @@ fn obey<B: Board>(parts: &mut Parts<B>, command: Command) -> Answer
             writeback,
         } => transfer(
             parts,
-            cache,
-            block,
-            way,
+            Target { cache, block, way },
             requestor,
             requestor_way,
             owner_next,
@@ -170,11 +177,11 @@ fn obey<B: Board>(parts: &mut Parts<B>, command: Command) -> Answer
             next,
             words,
             ..
-        } => fill(parts, cache, block, way, next, words),
+        } => fill(parts, Target { cache, block, way }, next, words),
         Command::SetStateWakeup { cache, block, way } => {
-            let set = parts.directory.geometry.set_of(block);
+            let set = parts.home(block);
             let held = parts.ways.get(Way::empty(), set, cache, way);
-            fill(parts, cache, block, way, State::M, held.words)
+            fill(parts, Target { cache, block, way }, State::M, held.words)
         }
     }
 }

@@ -68,7 +68,7 @@ pub(crate) fn finish<B: Board>(
 fn holding_way<B: Board>(parts: &Parts<B>, cache: u8, block: u16) -> Option<u8>
     ensures { result ≡ holding_way (⟦<Parts<B> as Shown>⟧.machine parts.now) cache block }
 {
-    let set = parts.directory.geometry.set_of(block);
+    let set = parts.home(block);
     (0..parts.directory.geometry.ways()).find(|way| {
         let held = parts.ways.get(Way::empty(), set, cache, *way);
         held.state.held() && held.block == block
@@ -79,8 +79,11 @@ fn holding_way<B: Board>(parts: &Parts<B>, cache: u8, block: u16) -> Option<u8>
 fn empty_way<B: Board>(parts: &Parts<B>, cache: u8, set: u8) -> Option<u8>
     ensures { result ≡ empty_way (⟦<Parts<B> as Shown>⟧.machine parts.now) set cache }
 {
-    (0..parts.directory.geometry.ways())
-        .find(|way| !parts.ways.get(Way::empty(), set, cache, *way).state.held())
+    (0..parts.directory.geometry.ways()).find(|way| !parts
+        .ways
+        .get(Way::empty(), set, cache, *way)
+        .state
+        .held())
 }
 
 // The cache keeps the order and waits, and a request goes out that names the way.
@@ -133,7 +136,7 @@ fn miss<B: Board>(
     match at {
         Some(way) => Ok(ask_for(parts, cache, asked, way)),
         None => {
-            let set = parts.directory.geometry.set_of(asked.block());
+            let set = parts.home(asked.block());
             Ok(ask_for_new(parts, cache, asked, set))
         }
     }
@@ -151,7 +154,7 @@ fn order_at<B: Board>(
     match at {
         None => miss(parts, cache, asked, None),
         Some(way) => {
-            let set = parts.directory.geometry.set_of(asked.block());
+            let set = parts.home(asked.block());
             let held = parts.ways.get(Way::empty(), set, cache, way);
             if asked.hits(held.state) {
                 return Ok(finish(parts, set, cache, way, held.state, held.words, asked));

@@ -1,4 +1,3 @@
 pub mod Alone
-pub mod Batches
 pub mod Plans
 pub mod Settling

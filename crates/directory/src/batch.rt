@@ -1,15 +1,5 @@
-ghost use Rattle.std.specs.Prelude.{◌≡◌, ◌≤◌, length};
-
+use arrayvec::ArrayVec;
 use messages::command::Command;
 
-mod filling;
-mod places;
-
-// The commands of a first round: room for one to the requestor and one to each of 8 caches, of which the first `count` go out.
-#[derive(Drop)]
-pub struct Batch {
-    commands: [Command; 9],
-    count: usize,
-    ghost few: { count ≤ 9 },
-    ghost sized: { length commands ≡ 9 },
-}
+// The commands of a first round, in the order in which they go out: at most one to the requestor and one to each of 8 caches.
+pub type Batch = ArrayVec<Command, 9>;

@@ -4,7 +4,6 @@ ghost use Rattle.machine.specs.Machines.{home};
 ghost use Rattle.machine.specs.Directory.{shown_way, shown_state, sharing, or_zero};
 ghost use Rattle.machine.specs.Acceptance.{upgrading, evict, dismiss, first_round};
 ghost use Rattle.directory.specs.Alone.{alone};
-ghost use Rattle.directory.specs.Batches.{sent};
 
 use crate::batch::Batch;
 use crate::state::Directory;
@@ -15,8 +14,8 @@ use protocols::state::State;
 
 // What empties a way that shows this entry, if it shows a block: what may be dirty is written back.
 fn eviction(cache: u8, way: u8, shown: Entry) -> Batch
-    ensures value { sent result ≡ evict cache way shown }
-    ensures few { length (sent result) ≤ 1 }
+    ensures value { result.items ≡ evict cache way shown }
+    ensures few { length result.items ≤ 1 }
 {
     let block = shown.block;
     let mut batch = Batch::new();
@@ -31,8 +30,8 @@ fn eviction(cache: u8, way: u8, shown: Entry) -> Batch
 impl Directory {
     // The victim's command: none where the request only upgrades.
     fn victim(&self, request: Request) -> Batch
-        ensures value { sent result ≡ (if upgrading (alone self.now) request then [] else evict request.cache request.way ((alone self.now).entry (home (alone self.now) request.block) request.cache request.way)) }
-        ensures few { length (sent result) ≤ 1 }
+        ensures value { result.items ≡ (if upgrading (alone self.now) request then [] else evict request.cache request.way ((alone self.now).entry (home (alone self.now) request.block) request.cache request.way)) }
+        ensures few { length result.items ≤ 1 }
     {
         if self.upgrades(request) {
             return Batch::new();
@@ -54,9 +53,9 @@ impl Directory {
 
     // Such a cache lets go of the block.
     fn dismiss_one(&self, batch: &mut Batch, requestor: u8, block: u16, cache: u8)
-        requires { length (sent batch.old) < 9 }
-        ensures after { sent batch.new ≡ sent batch.old ++ (if sharing (shown_state (alone self.now) cache block) && not (cache == requestor) then Invalidate cache block (or_zero (shown_way (alone self.now) cache block)) ∷ [] else []) }
-        ensures few { length (sent batch.new) ≤ length (sent batch.old) + 1 }
+        requires { length batch.old.items < 9 }
+        ensures after { batch.new.items ≡ batch.old.items ++ (if sharing (shown_state (alone self.now) cache block) && not (cache == requestor) then Invalidate cache block (or_zero (shown_way (alone self.now) cache block)) ∷ [] else []) }
+        ensures few { length batch.new.items ≤ length batch.old.items + 1 }
     {
         if self.is_other_sharer(requestor, block, cache) {
             batch.push(Command::Invalidate {
@@ -69,8 +68,8 @@ impl Directory {
 
     // Each other cache that is shown in S lets go of the block, lowest first.
     fn dismiss(&self, batch: &mut Batch, requestor: u8, block: u16)
-        requires { length (sent batch.old) ≤ 1 }
-        ensures { sent batch.new ≡ sent batch.old ++ dismiss (alone self.now) requestor block self.now.geometry.caches }
+        requires { length batch.old.items ≤ 1 }
+        ensures { batch.new.items ≡ batch.old.items ++ dismiss (alone self.now) requestor block self.now.geometry.caches }
     {
         for cache in 0..self.geometry.caches() {
             self.dismiss_one(batch, requestor, block, cache);
@@ -79,7 +78,7 @@ impl Directory {
 
     // The commands of the first round: the victim's, then for a Write those to the sharers.
     pub fn first_round(&self, request: Request) -> Batch
-        ensures { sent result ≡ first_round (alone self.now) request }
+        ensures { result.items ≡ first_round (alone self.now) request }
     {
         let mut batch = self.victim(request);
         match request.access {

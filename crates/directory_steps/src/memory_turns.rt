@@ -59,7 +59,7 @@ pub fn memory_turn<B: Board>(parts: &mut Parts<B>, pick: u8) -> Result<Answer, R
                 return Err(Refusal::NoRoom);
             }
             let _ = parts.memory_commands.take(pick);
-            let set = parts.directory.geometry.set_of(command.block());
+            let set = parts.home(command.block());
             count_down(parts, set);
             carry_out(parts, command);
             close(parts, set);

@@ -1,5 +1,4 @@
 ghost use Rattle.std.specs.Prelude.{◌≡◌, ◌+◌, ◌≤◌, not, [], ◌++◌, length, if◌then◌else◌, nat_le};
-ghost use Rattle.directory.specs.Batches.{sent};
 ghost use Rattle.machine.specs.Acceptance.{record_job, from_memory, accept as accept_step, deliver_request};
 ghost use Rattle.machine.specs.Outcomes.{answered};
 
@@ -17,13 +16,11 @@ use wires::channel::Channel;
 
 // Sends the commands of a batch, in their order.
 fn send_all<C: Channel<Command>>(channel: &mut C, batch: &Batch)
-    requires { length (C.waiting channel.old) + length (sent batch.now) ≤ 128 }
-    ensures { C.waiting channel.new ≡ C.waiting channel.old ++ sent batch.now }
+    requires { length (C.waiting channel.old) + length batch.now.items ≤ 128 }
+    ensures { C.waiting channel.new ≡ C.waiting channel.old ++ batch.now.items }
 {
-    for index in 0..batch.len() {
-        if let Some(command) = batch.get(index) {
-            let _ = channel.add(command);
-        }
+    for command in batch.as_slice() {
+        let _ = channel.add(*command);
     }
 }
 
@@ -31,7 +28,7 @@ fn send_all<C: Channel<Command>>(channel: &mut C, batch: &Batch)
 fn record_job<B: Board>(parts: &mut Parts<B>, job: Job, left: u8)
     ensures { ⟦<Parts<B> as Shown>⟧.machine parts.new ≡ record_job (⟦<Parts<B> as Shown>⟧.machine parts.old) job left }
 {
-    let set = parts.directory.geometry.set_of(job.block);
+    let set = parts.home(job.block);
     let round = Round::One { left };
     parts.directory.settle(job);
     parts
@@ -76,7 +73,7 @@ fn accept<B: Board>(
     job: Job,
     first: &Batch,
 ) -> Result<Answer, Refusal>
-    ensures { answered result (⟦<Parts<B> as Shown>⟧.machine parts.new) ≡ accept_step (⟦<Parts<B> as Shown>⟧.machine parts.old) (B.Requests.chosen parts.old.requests pick) request job (sent first.now) }
+    ensures { answered result (⟦<Parts<B> as Shown>⟧.machine parts.new) ≡ accept_step (⟦<Parts<B> as Shown>⟧.machine parts.old) (B.Requests.chosen parts.old.requests pick) request job first.now.items }
 {
     let left = first.len();
     if left == 0 {
@@ -98,7 +95,7 @@ pub fn deliver_request<B: Board>(parts: &mut Parts<B>, pick: u8) -> Result<Answe
     match parts.requests.look(pick) {
         None => Err(Refusal::ChannelEmpty),
         Some(request) => {
-            let set = parts.directory.geometry.set_of(request.block);
+            let set = parts.home(request.block);
             if parts.counts.get(0, set) != 0 {
                 return Err(Refusal::SetBusy);
             }

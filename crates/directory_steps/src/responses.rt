@@ -71,7 +71,7 @@ fn pass_on<B: Board>(parts: &mut Parts<B>, cache: u8, block: u16, words: Words)
     let _ = parts
         .memory_commands
         .add(MemoryCommand::Write { block, words });
-    let set = parts.directory.geometry.set_of(block);
+    let set = parts.home(block);
     count_up(parts, set);
 }
 
@@ -161,7 +161,7 @@ pub fn deliver_response<B: Board>(parts: &mut Parts<B>, pick: u8) -> Result<Answ
     match parts.responses.look(pick) {
         None => Err(Refusal::ChannelEmpty),
         Some(response) => {
-            let set = parts.directory.geometry.set_of(response.block());
+            let set = parts.home(response.block());
             let serving = parts.serving.get(None, set);
             if !has_room_to_start(parts, response, starting(serving)) {
                 return Err(Refusal::NoRoom);

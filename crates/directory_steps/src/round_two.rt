@@ -25,7 +25,7 @@ fn fetch<B: Board>(parts: &mut Parts<B>, job: Job)
     requires { ((from_memory job.source ≡ true → length (B.MemoryCommands.waiting parts.old.memory_commands) < 128)) × ((from_memory job.source ≡ false → length (B.Commands.waiting parts.old.commands) < 128)) }
     ensures { ⟦<Parts<B> as Shown>⟧.machine parts.new ≡ fetch_step (⟦<Parts<B> as Shown>⟧.machine parts.old) job job.source }
 {
-    let set = parts.directory.geometry.set_of(job.block);
+    let set = parts.home(job.block);
     match job.source {
         Source::Memory => {
             let _ = parts.memory_commands.add(MemoryCommand::Read {
@@ -76,7 +76,7 @@ pub(crate) fn begin_two<B: Board>(parts: &mut Parts<B>, job: Job)
     ensures { ⟦<Parts<B> as Shown>⟧.machine parts.new ≡ begin_two (⟦<Parts<B> as Shown>⟧.machine parts.old) job }
 {
     fetch(parts, job);
-    let set = parts.directory.geometry.set_of(job.block);
+    let set = parts.home(job.block);
     let round = Round::Two;
     parts
         .serving

@@ -3,5 +3,6 @@
 #![tactic(auto)]
 
 pub mod board;
+pub mod home;
 pub mod shown;
 pub mod state;

@@ -2,7 +2,6 @@ use Rattle.std.proofs.Common.{◌+◌, ◌<◌, ◌≤◌, ℕ, List, ◌++◌, 
 use Rattle.messages.specs.declared.request.Request.{Request}
 use Rattle.messages.specs.declared.command.Command.{Command}
 use Rattle.wires.specs.Waiting.{without}
-use Rattle.directory.specs.Batches.{sent}
 use Rattle.machine.specs.Machines.{Machine, with_requests, with_commands}
 use Rattle.machine.specs.Outcomes.{move_on}
 use Rattle.machine.specs.Acceptance.{record_job}
@@ -14,7 +13,7 @@ pub returns : goal.returns
 returns g c =
     let a = c.args in
     let before : Machine = view g.B.Protocol.Protocol.row g.B.Requests.Channel.waiting g.B.Commands.Channel.waiting g.B.Responses.Channel.waiting g.B.MemoryCommands.Channel.waiting g.B.Memory.Memory.blocks a.parts.now in
-    let xs = sent a.first.now in
+    let xs = a.first.now.items in
     let some : 0 < length xs = omega arith in
     let room : length before.commands + length xs ≤ 128 = omega arith in
     let at : ℕ = g.B.Requests.Channel.chosen a.parts.now.requests a.pick in

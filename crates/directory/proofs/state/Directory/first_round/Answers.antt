@@ -4,7 +4,6 @@ use Rattle.machine.specs.Machines.{Machine, home}
 use Rattle.machine.specs.Acceptance.{upgrading, evict, dismiss}
 use Rattle.messages.specs.declared.request.Request.{Request}
 use Rattle.directory.specs.Alone.{alone}
-use Rattle.directory.specs.Batches.{sent}
 use Rattle.directory.proofs.Rounds.{read_round, write_round}
 use Rattle.directory.proofs.state.Directory.first_round.Goals as goal
 
@@ -18,10 +17,10 @@ pub returns-in-Read : goal.returns-in-Read
 returns-in-Read c =
     let m = alone c.args.self.now in
     let q = c.args.request in
-    read_round (first m q) (sharers m q) (sent c.victim-batch.result) q.access c.in-Read.is c.victim-batch.ensures.value
+    read_round (first m q) (sharers m q) c.victim-batch.result.items q.access c.in-Read.is c.victim-batch.ensures.value
 
 pub returns-in-Write : goal.returns-in-Write
 returns-in-Write c =
     let m = alone c.args.self.now in
     let q = c.args.request in
-    write_round (first m q) (sharers m q) (sent c.victim-batch.result) (sent c.dismiss.new.batch) q.access c.in-Write.is c.victim-batch.ensures.value c.dismiss.ensures
+    write_round (first m q) (sharers m q) c.victim-batch.result.items c.dismiss.new.batch.items q.access c.in-Write.is c.victim-batch.ensures.value c.dismiss.ensures
