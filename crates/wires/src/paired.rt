@@ -17,7 +17,7 @@ pub struct OldestOfPair;
 fn same_pair<T: Routed>(a: &T, b: &T) -> bool
     ensures { result ≡ same_pair T.Routed.from T.Routed.to a.now b.now }
 {
-    a.sender().same(b.sender()) & a.receiver().same(b.receiver())
+    a.sender() == b.sender() && a.receiver() == b.receiver()
 }
 
 // The index of the oldest message with the same sender and receiver as `message`, or the count that waits where there is none.
