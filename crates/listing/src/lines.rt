@@ -16,7 +16,7 @@ use std::alloc::{AllocError, Global};
 fn kinds_text(heap: Global, head: &Head) -> Result<String, AllocError>
     ensures { IfOk result (λ s. string_bytes s ≡ kinds_text (head_codes head.now).protocol (head_codes head.now).channels (head_codes head.now).memory) }
 {
-    let protocol = head.protocol.name();
+    let protocol = head.protocol;
     let channels = head.channels.name();
     let memory = head.memory.name();
     format!(in heap; "protocol {protocol} channels {channels} memory {memory}")
@@ -48,8 +48,7 @@ pub fn refusal_line(heap: Global, place: usize, why: Refusal) -> Result<String, 
     ensures { IfOk result (λ s. string_bytes s ≡ refusal_line place (number why)) }
 {
     let code = why.number();
-    let meaning = why.meaning();
-    format!(in heap; "{place} no {code} {meaning}\n")
+    format!(in heap; "{place} no {code} {why}\n")
 }
 
 // Number and fields of a record, before the words of a content or the text of a note.

@@ -56,11 +56,11 @@ impl Command {
         ensures { result ≡ command_cache self }
     {
         match self {
-            Command::Invalidate { cache, .. } => cache,
-            Command::SetStateWriteback { cache, .. } => cache,
-            Command::Transfer { cache, .. } => cache,
-            Command::SetTagData { cache, .. } => cache,
-            Command::SetStateWakeup { cache, .. } => cache,
+            Command::Invalidate { cache, .. }
+            | Command::SetStateWriteback { cache, .. }
+            | Command::Transfer { cache, .. }
+            | Command::SetTagData { cache, .. }
+            | Command::SetStateWakeup { cache, .. } => cache,
         }
     }
 
@@ -69,16 +69,16 @@ impl Command {
         ensures { result ≡ command_block self }
     {
         match self {
-            Command::Invalidate { block, .. } => block,
-            Command::SetStateWriteback { block, .. } => block,
-            Command::Transfer { block, .. } => block,
-            Command::SetTagData { block, .. } => block,
-            Command::SetStateWakeup { block, .. } => block,
+            Command::Invalidate { block, .. }
+            | Command::SetStateWriteback { block, .. }
+            | Command::Transfer { block, .. }
+            | Command::SetTagData { block, .. }
+            | Command::SetStateWakeup { block, .. } => block,
         }
     }
 }
 
-// Fills the free room of a channel.
+// Fills the free room of a channel. By hand: a derive makes only a variant without fields the default.
 impl Default for Command {
     ghost is_default = { λ c. c ≡ blank_command };
 

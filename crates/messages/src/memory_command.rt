@@ -29,13 +29,12 @@ impl MemoryCommand {
         ensures { result ≡ memory_command_block self }
     {
         match self {
-            MemoryCommand::Read { block, .. } => block,
-            MemoryCommand::Write { block, .. } => block,
+            MemoryCommand::Read { block, .. } | MemoryCommand::Write { block, .. } => block,
         }
     }
 }
 
-// Fills the free room of a channel.
+// Fills the free room of a channel. By hand: a derive makes only a variant without fields the default.
 impl Default for MemoryCommand {
     ghost is_default = { λ m. m ≡ blank_memory_command };
 

@@ -24,10 +24,10 @@ impl Response {
         ensures { result ≡ response_cache self }
     {
         match self {
-            Response::InvalidateAck { cache, .. } => cache,
-            Response::CoherenceAck { cache, .. } => cache,
-            Response::Writeback { cache, .. } => cache,
-            Response::NullWriteback { cache, .. } => cache,
+            Response::InvalidateAck { cache, .. }
+            | Response::CoherenceAck { cache, .. }
+            | Response::Writeback { cache, .. }
+            | Response::NullWriteback { cache, .. } => cache,
         }
     }
 
@@ -36,15 +36,15 @@ impl Response {
         ensures { result ≡ response_block self }
     {
         match self {
-            Response::InvalidateAck { block, .. } => block,
-            Response::CoherenceAck { block, .. } => block,
-            Response::Writeback { block, .. } => block,
-            Response::NullWriteback { block, .. } => block,
+            Response::InvalidateAck { block, .. }
+            | Response::CoherenceAck { block, .. }
+            | Response::Writeback { block, .. }
+            | Response::NullWriteback { block, .. } => block,
         }
     }
 }
 
-// Fills the free room of a channel.
+// Fills the free room of a channel. By hand: a derive makes only a variant without fields the default.
 impl Default for Response {
     ghost is_default = { λ r. r ≡ blank_response };
 

@@ -62,10 +62,10 @@ fn row<C: Channel<Note> + Drop>(
     }
     let mut row = Vec::new(heap);
     for pick in 0..=255u8 {
-        match channel.look(pick) {
-            Some(shown) => row.push(b'0' + shown.number % 10)?,
-            None => row.push(b'.')?,
-        }
+        let digit = channel
+            .look(pick)
+            .map_or(b'.', |shown| b'0' + shown.number % 10);
+        row.push(digit)?;
     }
     row.push(b'\n')?;
     Ok(row)

@@ -33,7 +33,7 @@ impl HeadCodes {
     pub fn judge(self) -> Result<Head, Refusal>
         ensures { outcome head_codes result ≡ judged self }
     {
-        let protocol = ProtocolKind::from_code(self.protocol)?;
+        let protocol = ProtocolKind::try_from(self.protocol)?;
         let channels = ChannelKind::from_code(self.channels)?;
         let memory = MemoryKind::from_code(self.memory)?;
         let geometry = Geometry::new(self.caches, self.sets, self.ways, self.blocks)?;
@@ -51,7 +51,7 @@ impl Head {
         ensures { result ≡ head_codes self.now }
     {
         HeadCodes {
-            protocol: self.protocol.code(),
+            protocol: u8::from(self.protocol),
             channels: self.channels.code(),
             memory: self.memory.code(),
             caches: self.geometry.caches(),

@@ -1,3 +1,4 @@
 pub mod Waiting
 pub mod Picks
 pub mod Lines
+pub mod Within

@@ -1,6 +1,6 @@
--- What waits in a line.
-use Rattle.std.specs.Prelude.{List, take}
-use Rattle.wires.specs.declared.line.Line.{Line}
+-- What waits on a channel: the elements of the vector that holds its messages, oldest first.
+use Rattle.std.specs.Prelude.{List}
+use Rattle.arrayvec.specs.ArrayVec.{ArrayVec}
 
-abbrev pub waits : {T : Type 0} → Line T → List T
-waits l = take l.count l.slots
+abbrev pub waits : {T : Type 0} → ArrayVec T → List T
+waits l = l.items

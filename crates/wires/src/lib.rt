@@ -2,9 +2,9 @@
 #![tactic(auto)]
 
 pub mod channel;
-mod line;
 pub mod paired;
 pub mod single_file;
 #[cfg(test)]
 mod tests;
 pub mod unordered;
+pub mod wire;

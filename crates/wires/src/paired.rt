@@ -1,75 +1,43 @@
 ghost use Rattle.std.specs.Prelude.{◌≡◌};
 ghost use Rattle.wires.specs.Picks.{same_pair, first_by, paired_pick};
-ghost use Rattle.wires.specs.Lines.{waits};
+ghost use Rattle.wires.specs.Within.{paired_within};
 
-use crate::channel::Channel;
-use crate::line::Line;
+use crate::unordered::ByNumber;
+use crate::wire::{Choice, Wire};
 use bedrock::party::Routed;
-use bedrock::refusal::Refusal;
 
 // Finds the message whose number is the pick modulo the count that waits, and shows the oldest that has
 // the same sender and the same receiver. So two messages between one pair of parties never overtake each other.
+pub type Paired<T> = Wire<T, OldestOfPair>;
+
 #[derive(Drop)]
-pub struct Paired<T> {
-    line: Line<T>,
-}
+pub struct OldestOfPair;
 
 // Do two messages have the same sender and the same receiver?
 fn same_pair<T: Routed>(a: &T, b: &T) -> bool
     ensures { result ≡ same_pair T.Routed.from T.Routed.to a.now b.now }
 {
-    a.sender().same(b.sender()) & a.receiver().same(b.receiver())
+    a.sender() == b.sender() && a.receiver() == b.receiver()
 }
 
-impl<T: Copy + Routed> Paired<T> {
-    // The index of the oldest message with the same sender and receiver as `message`.
-    fn oldest(&self, message: &T) -> usize
-        ensures { result ≡ first_by (same_pair T.Routed.from T.Routed.to message.now) (waits self.now.line) }
-    {
-        let mut index = 0;
-        while let Some(other) = self.line.at(index) {
-            if same_pair(message, &other) {
-                return index;
-            }
-            index += 1;
-        }
-        index
-    }
-
-    // The index that a pick shows.
-    fn chosen(&self, pick: u8) -> usize
-        ensures { result ≡ paired_pick T.Routed.from T.Routed.to (waits self.now.line) pick }
-    {
-        match self.line.at(self.line.number(pick)) {
-            Some(message) => self.oldest(&message),
-            None => 0,
-        }
-    }
+// The index of the oldest message with the same sender and receiver as `message`, or the count that waits where there is none.
+fn oldest<T: Routed>(waiting: &[T], message: &T) -> usize
+    ensures { result ≡ first_by (same_pair T.Routed.from T.Routed.to message.now) waiting.now }
+{
+    waiting
+        .iter()
+        .position(|other| same_pair(message, other))
+        .unwrap_or(waiting.len())
 }
 
-impl<T: Copy + Default + Routed> Channel<T> for Paired<T> {
-    ghost waiting = { λ c. waits c.line };
+impl<T: Routed> Choice<T> for OldestOfPair {
+    ghost choice = { paired_pick T.Routed.from T.Routed.to };
 
-    ghost chosen = { λ c. paired_pick T.Routed.from T.Routed.to (waits c.line) };
+    ghost within = { paired_within T.Routed.from T.Routed.to };
 
-    fn new() -> Paired<T> {
-        Paired { line: Line::new() }
-    }
-
-    fn len(&self) -> usize {
-        self.line.len()
-    }
-
-    fn add(&mut self, message: T) -> Result<(), Refusal> {
-        self.line.add(message)
-    }
-
-    fn look(&self, pick: u8) -> Option<T> {
-        self.line.at(self.chosen(pick))
-    }
-
-    fn take(&mut self, pick: u8) -> Option<T> {
-        let index = self.chosen(pick);
-        self.line.remove(index)
+    fn choose(waiting: &[T], pick: u8) -> usize {
+        waiting
+            .get(ByNumber::choose(waiting, pick))
+            .map_or(0, |message| oldest(waiting, message))
     }
 }

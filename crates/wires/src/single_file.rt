@@ -1,38 +1,20 @@
 ghost use Rattle.wires.specs.Picks.{single_file_pick};
-ghost use Rattle.wires.specs.Lines.{waits};
+ghost use Rattle.wires.specs.Within.{single_file_within};
 
-use crate::channel::Channel;
-use crate::line::Line;
-use bedrock::refusal::Refusal;
+use crate::wire::{Choice, Wire};
 
 // Shows the oldest message, whatever the pick.
+pub type SingleFile<T> = Wire<T, Oldest>;
+
 #[derive(Drop)]
-pub struct SingleFile<T> {
-    line: Line<T>,
-}
+pub struct Oldest;
 
-impl<T: Copy + Default> Channel<T> for SingleFile<T> {
-    ghost waiting = { λ c. waits c.line };
+impl<T> Choice<T> for Oldest {
+    ghost choice = { single_file_pick };
 
-    ghost chosen = { λ c. single_file_pick (waits c.line) };
+    ghost within = { single_file_within };
 
-    fn new() -> SingleFile<T> {
-        SingleFile { line: Line::new() }
-    }
-
-    fn len(&self) -> usize {
-        self.line.len()
-    }
-
-    fn add(&mut self, message: T) -> Result<(), Refusal> {
-        self.line.add(message)
-    }
-
-    fn look(&self, _pick: u8) -> Option<T> {
-        self.line.at(0)
-    }
-
-    fn take(&mut self, _pick: u8) -> Option<T> {
-        self.line.remove(0)
+    fn choose(_waiting: &[T], _pick: u8) -> usize {
+        0
     }
 }

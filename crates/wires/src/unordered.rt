@@ -1,39 +1,20 @@
 ghost use Rattle.wires.specs.Picks.{unordered_pick};
-ghost use Rattle.wires.specs.Lines.{waits};
+ghost use Rattle.wires.specs.Within.{unordered_within};
 
-use crate::channel::Channel;
-use crate::line::Line;
-use bedrock::refusal::Refusal;
+use crate::wire::{Choice, Wire};
 
 // Shows the message whose number is the pick modulo the count that waits, the oldest being 0.
+pub type Unordered<T> = Wire<T, ByNumber>;
+
 #[derive(Drop)]
-pub struct Unordered<T> {
-    line: Line<T>,
-}
+pub struct ByNumber;
 
-impl<T: Copy + Default> Channel<T> for Unordered<T> {
-    ghost waiting = { λ c. waits c.line };
+impl<T> Choice<T> for ByNumber {
+    ghost choice = { unordered_pick };
 
-    ghost chosen = { λ c. unordered_pick (waits c.line) };
+    ghost within = { unordered_within };
 
-    fn new() -> Unordered<T> {
-        Unordered { line: Line::new() }
-    }
-
-    fn len(&self) -> usize {
-        self.line.len()
-    }
-
-    fn add(&mut self, message: T) -> Result<(), Refusal> {
-        self.line.add(message)
-    }
-
-    fn look(&self, pick: u8) -> Option<T> {
-        self.line.at(self.line.number(pick))
-    }
-
-    fn take(&mut self, pick: u8) -> Option<T> {
-        let index = self.line.number(pick);
-        self.line.remove(index)
+    fn choose(waiting: &[T], pick: u8) -> usize {
+        (pick as usize).checked_rem(waiting.len()).unwrap_or(0)
     }
 }
