@@ -200,14 +200,10 @@ fn has_room_for<B: Board>(parts: &Parts<B>, command: Command) -> bool
 pub fn deliver_command<B: Board>(parts: &mut Parts<B>, pick: u8) -> Result<Answer, Refusal>
     ensures { answered result (⟦<Parts<B> as Shown>⟧.machine parts.new) ≡ deliver_command (⟦<Parts<B> as Shown>⟧.machine parts.old) (B.Commands.chosen parts.old.commands pick) }
 {
-    match parts.commands.look(pick) {
-        None => Err(Refusal::ChannelEmpty),
-        Some(command) => {
-            if !has_room_for(parts, command) {
-                return Err(Refusal::NoRoom);
-            }
-            let _ = parts.commands.take(pick);
-            Ok(obey(parts, command))
-        }
+    let command = parts.commands.look(pick).ok_or(Refusal::ChannelEmpty)?;
+    if !has_room_for(parts, command) {
+        return Err(Refusal::NoRoom);
     }
+    let _ = parts.commands.take(pick);
+    Ok(obey(parts, command))
 }

@@ -14,7 +14,7 @@ use protocols::state::State;
 fn shows(entry: Entry, block: u16) -> bool
     ensures { result ≡ (held entry.state && entry.block == block) }
 {
-    entry.state.held() & (entry.block == block)
+    entry.state.held() && entry.block == block
 }
 
 impl Directory {
@@ -37,10 +37,9 @@ impl Directory {
     pub(crate) fn shown_state(&self, cache: u8, block: u16) -> State
         ensures { result ≡ shown_state (alone self.now) cache block }
     {
-        match self.shown_way(cache, block) {
-            Some(way) => self.entry(self.geometry.set_of(block), cache, way).state,
-            None => State::I,
-        }
+        self.shown_way(cache, block).map_or(State::I, |way| {
+            self.entry(self.geometry.set_of(block), cache, way).state
+        })
     }
 
     // The cache that owns a block.

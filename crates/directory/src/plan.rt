@@ -38,10 +38,7 @@ impl Directory {
     pub(crate) fn way_of(&self, cache: u8, block: u16) -> u8
         ensures { result ≡ or_zero (shown_way (alone self.now) cache block) }
     {
-        match self.shown_way(cache, block) {
-            Some(way) => way,
-            None => 0,
-        }
+        self.shown_way(cache, block).unwrap_or(0)
     }
 
     // Where the words come from without another owner: the requestor has them in an upgrade, else the memory.
@@ -59,19 +56,14 @@ impl Directory {
         ensures { result ≡ source_with (alone self.now) request row owner }
     {
         match owner {
-            None => self.unowned_source(request),
-            Some(cache) => {
-                if cache == request.cache {
-                    return self.unowned_source(request);
-                }
-                Source::Owner {
-                    cache,
-                    way: self.way_of(cache, request.block),
-                    shown: self.shown_state(cache, request.block),
-                    next: row.owner,
-                    writeback: row.writeback,
-                }
-            }
+            Some(cache) if cache != request.cache => Source::Owner {
+                cache,
+                way: self.way_of(cache, request.block),
+                shown: self.shown_state(cache, request.block),
+                next: row.owner,
+                writeback: row.writeback,
+            },
+            _ => self.unowned_source(request),
         }
     }
 

@@ -52,18 +52,17 @@ fn carry_out<B: Board>(parts: &mut Parts<B>, command: MemoryCommand)
 pub fn memory_turn<B: Board>(parts: &mut Parts<B>, pick: u8) -> Result<Answer, Refusal>
     ensures { answered result (⟦<Parts<B> as Shown>⟧.machine parts.new) ≡ memory_turn (⟦<Parts<B> as Shown>⟧.machine parts.old) (B.MemoryCommands.chosen parts.old.memory_commands pick) }
 {
-    match parts.memory_commands.look(pick) {
-        None => Err(Refusal::ChannelEmpty),
-        Some(command) => {
-            if is_read(command) && parts.commands.len() >= 128 {
-                return Err(Refusal::NoRoom);
-            }
-            let _ = parts.memory_commands.take(pick);
-            let set = parts.home(command.block());
-            count_down(parts, set);
-            carry_out(parts, command);
-            close(parts, set);
-            Ok(Answer::MovedOn)
-        }
+    let command = parts
+        .memory_commands
+        .look(pick)
+        .ok_or(Refusal::ChannelEmpty)?;
+    if is_read(command) && parts.commands.len() >= 128 {
+        return Err(Refusal::NoRoom);
     }
+    let _ = parts.memory_commands.take(pick);
+    let set = parts.home(command.block());
+    count_down(parts, set);
+    carry_out(parts, command);
+    close(parts, set);
+    Ok(Answer::MovedOn)
 }

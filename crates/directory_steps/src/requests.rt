@@ -92,16 +92,12 @@ fn accept<B: Board>(
 pub fn deliver_request<B: Board>(parts: &mut Parts<B>, pick: u8) -> Result<Answer, Refusal>
     ensures { answered result (⟦<Parts<B> as Shown>⟧.machine parts.new) ≡ deliver_request (⟦<Parts<B> as Shown>⟧.machine parts.old) (B.Requests.chosen parts.old.requests pick) }
 {
-    match parts.requests.look(pick) {
-        None => Err(Refusal::ChannelEmpty),
-        Some(request) => {
-            let set = parts.home(request.block);
-            if parts.counts.get(0, set) != 0 {
-                return Err(Refusal::SetBusy);
-            }
-            let job = parts.directory.job_for(&parts.protocol, request);
-            let first = parts.directory.first_round(request);
-            accept(parts, pick, request, job, &first)
-        }
+    let request = parts.requests.look(pick).ok_or(Refusal::ChannelEmpty)?;
+    let set = parts.home(request.block);
+    if parts.counts.get(0, set) != 0 {
+        return Err(Refusal::SetBusy);
     }
+    let job = parts.directory.job_for(&parts.protocol, request);
+    let first = parts.directory.first_round(request);
+    accept(parts, pick, request, job, &first)
 }

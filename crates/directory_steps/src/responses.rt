@@ -29,17 +29,13 @@ fn starting(serving: Option<Transaction>) -> Option<Source>
     ensures { result ≡ starts serving }
 {
     match serving {
-        None => None,
-        Some(transaction) => match transaction.round {
-            Round::Two => None,
-            Round::One { left } => {
-                if left == 1 {
-                    Some(transaction.job.source)
-                } else {
-                    None
-                }
-            }
-        },
+        Some(
+            Transaction {
+                job,
+                round: Round::One { left: 1 },
+            },
+        ) => Some(job.source),
+        _ => None,
     }
 }
 
@@ -47,20 +43,14 @@ fn starting(serving: Option<Transaction>) -> Option<Source>
 fn memory_reads(start: Option<Source>) -> usize
     ensures { result ≡ memory_reads start }
 {
-    match start {
-        None => 0,
-        Some(source) => from_memory(source) as usize,
-    }
+    start.map_or(0, |source| from_memory(source) as usize)
 }
 
 // How many commands that sends.
 fn commands_sent(start: Option<Source>) -> usize
     ensures { result ≡ commands_sent start }
 {
-    match start {
-        None => 0,
-        Some(source) => !from_memory(source) as usize,
-    }
+    start.map_or(0, |source| !from_memory(source) as usize)
 }
 
 // A Writeback makes the directory send a memory write, which is awaited.
@@ -126,7 +116,12 @@ fn advance<B: Board>(parts: &mut Parts<B>, set: u8, transaction: Transaction, re
 }
 
 // The same where the set may have no transaction: then a Writeback still goes on.
-fn take_answer<B: Board>(parts: &mut Parts<B>, set: u8, serving: Option<Transaction>, response: Response)
+fn take_answer<B: Board>(
+    parts: &mut Parts<B>,
+    set: u8,
+    serving: Option<Transaction>,
+    response: Response,
+)
     requires { (length (B.MemoryCommands.waiting parts.old.memory_commands) + (writes_on response + memory_reads (starts serving)) ≤ 128) × (length (B.Commands.waiting parts.old.commands) + commands_sent (starts serving) ≤ 128) }
     ensures { ⟦<Parts<B> as Shown>⟧.machine parts.new ≡ advance_step (pass_on (⟦<Parts<B> as Shown>⟧.machine parts.old) response) set serving }
 {
@@ -158,19 +153,15 @@ fn has_room_to_start<B: Board>(parts: &Parts<B>, response: Response, start: Opti
 pub fn deliver_response<B: Board>(parts: &mut Parts<B>, pick: u8) -> Result<Answer, Refusal>
     ensures { answered result (⟦<Parts<B> as Shown>⟧.machine parts.new) ≡ deliver_response (⟦<Parts<B> as Shown>⟧.machine parts.old) (B.Responses.chosen parts.old.responses pick) }
 {
-    match parts.responses.look(pick) {
-        None => Err(Refusal::ChannelEmpty),
-        Some(response) => {
-            let set = parts.home(response.block());
-            let serving = parts.serving.get(None, set);
-            if !has_room_to_start(parts, response, starting(serving)) {
-                return Err(Refusal::NoRoom);
-            }
-            let _ = parts.responses.take(pick);
-            count_down(parts, set);
-            take_answer(parts, set, serving, response);
-            close(parts, set);
-            Ok(Answer::MovedOn)
-        }
+    let response = parts.responses.look(pick).ok_or(Refusal::ChannelEmpty)?;
+    let set = parts.home(response.block());
+    let serving = parts.serving.get(None, set);
+    if !has_room_to_start(parts, response, starting(serving)) {
+        return Err(Refusal::NoRoom);
     }
+    let _ = parts.responses.take(pick);
+    count_down(parts, set);
+    take_answer(parts, set, serving, response);
+    close(parts, set);
+    Ok(Answer::MovedOn)
 }

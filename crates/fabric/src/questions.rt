@@ -1,5 +1,6 @@
 ghost use Rattle.std.specs.Prelude.{◌≡◌};
 ghost use Rattle.bedrock.specs.Refusals.{outcome};
+ghost use Rattle.fabric.specs.Places.{place_asked};
 ghost use Rattle.machine.specs.Questions.{way_asked, entry_asked, kept_asked, count_asked, length_asked, memory_asked};
 
 use crate::state::Fabric;
@@ -13,31 +14,31 @@ use wires::channel::Channel;
 
 // Questions: what stands where, or why there is no such place. They change nothing.
 impl<B: Board> Fabric<B> {
+    // Whether there is such a place, or why not.
+    fn find_place(&self, cache: u8, set: u8, way: u8) -> Result<(), Refusal>
+        ensures { outcome (λ u. u) result ≡ place_asked (⟦<Fabric<B> as Shown>⟧.machine self.now).geometry cache set way }
+    {
+        let geometry = &self.parts.directory.geometry;
+        if cache >= geometry.caches() {
+            return Err(Refusal::NoSuchCache);
+        }
+        if set >= geometry.sets() || way >= geometry.ways() {
+            return Err(Refusal::NoSuchSetOrWay);
+        }
+        Ok(())
+    }
+
     pub fn way(&self, cache: u8, set: u8, way: u8) -> Result<Way, Refusal>
         ensures { outcome (λ v. v) result ≡ way_asked (⟦<Fabric<B> as Shown>⟧.machine self.now) cache set way }
     {
-        if cache >= self.parts.directory.geometry.caches() {
-            return Err(Refusal::NoSuchCache);
-        }
-        if set >= self.parts.directory.geometry.sets()
-            || way >= self.parts.directory.geometry.ways()
-        {
-            return Err(Refusal::NoSuchSetOrWay);
-        }
+        self.find_place(cache, set, way)?;
         Ok(self.parts.ways.get(Way::empty(), set, cache, way))
     }
 
     pub fn entry(&self, cache: u8, set: u8, way: u8) -> Result<Entry, Refusal>
         ensures { outcome (λ v. v) result ≡ entry_asked (⟦<Fabric<B> as Shown>⟧.machine self.now) cache set way }
     {
-        if cache >= self.parts.directory.geometry.caches() {
-            return Err(Refusal::NoSuchCache);
-        }
-        if set >= self.parts.directory.geometry.sets()
-            || way >= self.parts.directory.geometry.ways()
-        {
-            return Err(Refusal::NoSuchSetOrWay);
-        }
+        self.find_place(cache, set, way)?;
         Ok(
             self.parts
                 .directory
