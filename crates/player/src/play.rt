@@ -12,11 +12,7 @@ use crate::printing::record_lines;
 use memory::Memory;
 use memory::byte_image::ByteImage;
 use memory::word_table::WordTable;
-use messages::command::Command;
-use messages::memory_command::MemoryCommand;
-use messages::request::Request;
-use messages::response::Response;
-use parts::board::{Board, Wiring};
+use parts::board::{Board, Uniform};
 use protocols::protocol_kind::ProtocolKind;
 use runs::run::run;
 use sheet::head::Head;
@@ -24,9 +20,9 @@ use sheet::kinds::{ChannelKind, MemoryKind};
 use sheet::sheets::{CheckedSheet, UncheckedSheet};
 use std::alloc::{AllocError, Global};
 use wires::channel::Channel;
-use wires::paired::Paired;
-use wires::single_file::SingleFile;
-use wires::unordered::Unordered;
+use wires::paired::OldestOfPair;
+use wires::single_file::Oldest;
+use wires::unordered::ByNumber;
 
 // The lines of a sheet whose head is good, played over channels and a memory of these kinds: the records are read once to make the
 // run, and once more to print what each gave.
@@ -61,36 +57,9 @@ fn play_over<M: Memory + Drop>(
     ensures { IfOk result (λ v. v.items ≡ lines_by (picks_of (head_codes head.now).channels) (head_codes head.now) (reading_of sheet.now.bytes.items)) }
 {
     match head.channels {
-        ChannelKind::Unordered => play_on::<
-            Wiring<
-                ProtocolKind,
-                Unordered<Request>,
-                Unordered<Command>,
-                Unordered<Response>,
-                Unordered<MemoryCommand>,
-                M,
-            >,
-        >(heap, head, sheet),
-        ChannelKind::Paired => play_on::<
-            Wiring<
-                ProtocolKind,
-                Paired<Request>,
-                Paired<Command>,
-                Paired<Response>,
-                Paired<MemoryCommand>,
-                M,
-            >,
-        >(heap, head, sheet),
-        ChannelKind::SingleFile => play_on::<
-            Wiring<
-                ProtocolKind,
-                SingleFile<Request>,
-                SingleFile<Command>,
-                SingleFile<Response>,
-                SingleFile<MemoryCommand>,
-                M,
-            >,
-        >(heap, head, sheet),
+        ChannelKind::Unordered => play_on::<Uniform<ProtocolKind, ByNumber, M>>(heap, head, sheet),
+        ChannelKind::Paired => play_on::<Uniform<ProtocolKind, OldestOfPair, M>>(heap, head, sheet),
+        ChannelKind::SingleFile => play_on::<Uniform<ProtocolKind, Oldest, M>>(heap, head, sheet),
     }
 }
 
