@@ -16,6 +16,7 @@ use directory_steps::responses::deliver_response;
 use machine::answer::Answer;
 use machine::fabric_call::FabricCall;
 use machine::order::Order;
+use messages::family::Family;
 use parts::board::Board;
 use parts::shown::Shown;
 use wires::channel::Channel;
@@ -32,11 +33,11 @@ impl<B: Board> Fabric<B> {
     pub fn deliver(&mut self, channel: u8, pick: u8) -> Result<Answer, Refusal>
         ensures { answered result (⟦<Fabric<B> as Shown>⟧.machine self.new) ≡ deliver_step (⟦<Fabric<B> as Shown>⟧.machine self.old) channel (index_on B.Requests.chosen B.Commands.chosen B.Responses.chosen self.old channel pick) }
     {
-        match channel {
-            0 => deliver_request(&mut self.parts, pick),
-            1 => deliver_command(&mut self.parts, pick),
-            2 => deliver_response(&mut self.parts, pick),
-            _ => Err(Refusal::NoSuchChannel),
+        match Family::try_from(channel)? {
+            Family::Requests => deliver_request(&mut self.parts, pick),
+            Family::Commands => deliver_command(&mut self.parts, pick),
+            Family::Responses => deliver_response(&mut self.parts, pick),
+            Family::MemoryCommands => Err(Refusal::NoSuchChannel),
         }
     }
 

@@ -7,6 +7,7 @@ use crate::state::Fabric;
 use bedrock::refusal::Refusal;
 use machine::holding::{Entry, Way};
 use machine::order::Order;
+use messages::family::Family;
 use memory::Memory;
 use parts::board::Board;
 use parts::shown::Shown;
@@ -71,13 +72,12 @@ impl<B: Board> Fabric<B> {
     pub fn length(&self, channel: u8) -> Result<usize, Refusal>
         ensures { outcome (λ v. v) result ≡ length_asked (⟦<Fabric<B> as Shown>⟧.machine self.now) channel }
     {
-        match channel {
-            0 => Ok(self.parts.requests.len()),
-            1 => Ok(self.parts.commands.len()),
-            2 => Ok(self.parts.responses.len()),
-            3 => Ok(self.parts.memory_commands.len()),
-            _ => Err(Refusal::NoSuchChannel),
-        }
+        Ok(match Family::try_from(channel)? {
+            Family::Requests => self.parts.requests.len(),
+            Family::Commands => self.parts.commands.len(),
+            Family::Responses => self.parts.responses.len(),
+            Family::MemoryCommands => self.parts.memory_commands.len(),
+        })
     }
 
     // A word of the memory.

@@ -2,6 +2,7 @@
 #![tactic(auto)]
 
 pub mod command;
+pub mod family;
 pub mod memory_command;
 pub mod request;
 pub mod response;
