@@ -23,12 +23,12 @@ impl Words {
         if word == 0 {
             Words {
                 first: value,
-                second: self.second,
+                ..self
             }
         } else {
             Words {
-                first: self.first,
                 second: value,
+                ..self
             }
         }
     }

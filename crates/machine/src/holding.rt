@@ -5,7 +5,7 @@ use bedrock::words::Words;
 use protocols::state::State;
 
 // A way of a cache: a block's words, held in a state. In I it shows zeros.
-#[derive(Clone, Copy)]
+#[derive(Clone, Copy, Default)]
 pub struct Way {
     pub state: State,
     pub block: u16,
@@ -17,15 +17,7 @@ impl Way {
     pub fn empty() -> Way
         ensures { result ≡ no_way }
     {
-        let words = Words {
-            first: 0,
-            second: 0,
-        };
-        Way {
-            state: State::I,
-            block: 0,
-            words,
-        }
+        Way::default()
     }
 
     // A block's words in a state; in I none of them shows.
@@ -44,7 +36,7 @@ impl Way {
 }
 
 // What the directory shows of a way. In I it shows zeros.
-#[derive(Clone, Copy)]
+#[derive(Clone, Copy, Default)]
 pub struct Entry {
     pub state: State,
     pub block: u16,
@@ -55,12 +47,9 @@ impl Entry {
     pub fn empty() -> Entry
         ensures { result ≡ no_entry }
     {
-        let block = 0;
-        Entry {
-            state: State::I,
-            block,
-        }
+        Entry::default()
     }
+
     // A block in a state; in I it does not show.
     pub fn holding(state: State, block: u16) -> Entry
         ensures { result ≡ entry_in state block }

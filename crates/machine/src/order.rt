@@ -16,8 +16,7 @@ impl Order {
         ensures { result ≡ block_of self }
     {
         match self {
-            Order::Load { block, .. } => block,
-            Order::Store { block, .. } => block,
+            Order::Load { block, .. } | Order::Store { block, .. } => block,
         }
     }
 
@@ -25,8 +24,7 @@ impl Order {
         ensures { result ≡ word_asked self }
     {
         match self {
-            Order::Load { word, .. } => word,
-            Order::Store { word, .. } => word,
+            Order::Load { word, .. } | Order::Store { word, .. } => word,
         }
     }
 

@@ -19,7 +19,7 @@ impl State {
     pub fn held(self) -> bool
         ensures { result ≡ held self }
     {
-        !matches!(self, State::I)
+        self != State::I
     }
 
     // Whether the cache is the block's owner, which hands its words to others.

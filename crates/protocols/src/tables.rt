@@ -77,24 +77,25 @@ const MOESIF: [Row; 6] = [I_E, I_S, F_S_W, O_S, O_S, F_S];
 impl Protocol for ProtocolKind {
     ghost row = { read_row };
 
-    ghost unowned = { λ p s. unowned_kept p s };
+    ghost unowned = { unowned_kept };
 
-    ghost handover = { λ p s. handover_kept p s };
+    ghost handover = { handover_kept };
 
-    ghost exclusive = { λ p s. exclusive_kept p s };
+    ghost exclusive = { exclusive_kept };
 
-    ghost dirty = { λ p s. dirty_kept p s };
+    ghost dirty = { dirty_kept };
 
     fn read_row(&self, state: State) -> Row {
-        match *self {
-            ProtocolKind::Mi => MI[state as usize],
-            ProtocolKind::Msi => MSI[state as usize],
-            ProtocolKind::Mesi => MESI[state as usize],
-            ProtocolKind::Mesif => MESIF[state as usize],
-            ProtocolKind::Mosi => MOSI[state as usize],
-            ProtocolKind::Mosif => MOSIF[state as usize],
-            ProtocolKind::Moesi => MOESI[state as usize],
-            ProtocolKind::Moesif => MOESIF[state as usize],
-        }
+        let rows = match *self {
+            ProtocolKind::Mi => MI,
+            ProtocolKind::Msi => MSI,
+            ProtocolKind::Mesi => MESI,
+            ProtocolKind::Mesif => MESIF,
+            ProtocolKind::Mosi => MOSI,
+            ProtocolKind::Mosif => MOSIF,
+            ProtocolKind::Moesi => MOESI,
+            ProtocolKind::Moesif => MOESIF,
+        };
+        rows[state as usize]
     }
 }

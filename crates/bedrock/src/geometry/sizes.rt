@@ -10,17 +10,9 @@ impl Geometry {
     pub fn new(caches: u8, sets: u8, ways: u8, blocks: u16) -> Result<Geometry, Refusal>
         ensures { outcome sizes result ≡ judged_sizes caches sets ways blocks }
     {
-        if caches < 1
-            || caches > 8
-            || sets < 1
-            || sets > 16
-            || ways < 1
-            || ways > 4
-            || blocks < 1
-            || blocks > 1024
-        {
+        let (1..=8, 1..=16, 1..=4, 1..=1024) = (caches, sets, ways, blocks) else {
             return Err(Refusal::OutOfBounds);
-        }
+        };
         Ok(Geometry {
             caches,
             sets,
