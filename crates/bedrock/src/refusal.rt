@@ -31,14 +31,12 @@ impl Refusal {
     {
         self as u8
     }
-}
 
-// The refusal in words.
-impl fmt::Display for Refusal {
-    ghost output = { λ why. Some (meaning_of (number why)) };
-
-    fn fmt<W: fmt::Write>(&self, f: &mut fmt::Formatter<W>) -> fmt::Result {
-        f.write_str(match self {
+    // The refusal in words.
+    pub fn meaning(self) -> &'static str
+        ensures { result.now ≡ meaning_of (number self) }
+    {
+        match self {
             Refusal::NoSuchCache => "no such cache",
             Refusal::NoSuchBlock => "no such block",
             Refusal::NoSuchWord => "no such word",
@@ -55,6 +53,14 @@ impl fmt::Display for Refusal {
             Refusal::NoRoom => "no room on a channel",
             Refusal::LateContent => "content after another record",
             Refusal::BufferTooShort => "buffer too short",
-        })
+        }
+    }
+}
+
+impl fmt::Display for Refusal {
+    ghost output = { λ why. Some (meaning_of (number why)) };
+
+    fn fmt<W: fmt::Write>(&self, f: &mut fmt::Formatter<W>) -> fmt::Result {
+        f.write_str(self.meaning())
     }
 }

@@ -48,12 +48,11 @@ impl From<ProtocolKind> for u8 {
     }
 }
 
-// Its name.
-impl fmt::Display for ProtocolKind {
-    ghost output = { λ kind. Some (name_of (code_of kind)) };
-
-    fn fmt<W: fmt::Write>(&self, f: &mut fmt::Formatter<W>) -> fmt::Result {
-        f.write_str(match self {
+impl ProtocolKind {
+    pub fn name(self) -> &'static str
+        ensures { result.now ≡ name_of (code_of self) }
+    {
+        match self {
             ProtocolKind::Mi => "MI",
             ProtocolKind::Msi => "MSI",
             ProtocolKind::Mesi => "MESI",
@@ -62,6 +61,14 @@ impl fmt::Display for ProtocolKind {
             ProtocolKind::Mosif => "MOSIF",
             ProtocolKind::Moesi => "MOESI",
             ProtocolKind::Moesif => "MOESIF",
-        })
+        }
+    }
+}
+
+impl fmt::Display for ProtocolKind {
+    ghost output = { λ kind. Some (name_of (code_of kind)) };
+
+    fn fmt<W: fmt::Write>(&self, f: &mut fmt::Formatter<W>) -> fmt::Result {
+        f.write_str(self.name())
     }
 }
