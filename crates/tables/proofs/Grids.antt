@@ -1,9 +1,9 @@
 -- Reading and changing a table is reading and changing its function.
-use Rattle.std.proofs.Common.{◌≡◌, ℕ, zero, suc, ◌+◌, ◌*◌, ◌<◌, ◌≤◌, Bool, true, false, cond, ◌&&◌, eqb, ltb, List, [], ◌∷◌, length, get_or, set, replicate, Some, None, ⊎_elim, sym, refl, ap, ◌∙◌, arith, get_or-set_other, get_or-set_same}
+use Rattle.std.proofs.Common.{◌≡◌, ℕ, zero, suc, ◌+◌, ◌*◌, ◌<◌, ◌≤◌, Bool, true, false, cond, ◌&&◌, eqb, ltb, List, length, get_or, set, replicate, Some, None, ⊎_elim, sym, refl, ap, ◌∙◌, arith, get_or-set_other, get_or-set_same}
 use mathlib.Core.Path.{fun_ext}
 use Rattle.std.proofs.lemmas.Bool.Decides.{nat_tests}
 use Rattle.std.proofs.lemmas.Bool.{cases_lt, both_ways, eq-eqb, eqb-true, lt-ltb, le-ltb, ltb-true, and_parts, and_from, cond-true, cond-false}
-use Rattle.std.proofs.lemmas.List.{get_or_past}
+use Rattle.std.proofs.lemmas.List.{get_or_past, get_or_default}
 use Rattle.machine.specs.Tables.{put, put₂, put₃}
 use Rattle.tables.specs.Grids.{column, rows, grid, everywhere, everywhere₂, everywhere₃}
 
@@ -165,14 +165,9 @@ inside₂ s c t = let p = and_parts (ltb s 16) (ltb c 8) t in (ltb-true s 16 p.0
 outside₂ : (s c : ℕ) → (ltb s 16 && ltb c 8) ≡ false → s < 16 → c < 8 → ⊥
 outside₂ s c f hs hc = both_ways _ f (and_from _ _ (lt-ltb s 16 hs) (lt-ltb c 8 hc))
 
-any_default : {A : Type 0} (xs : List A) (i : ℕ) (d z : A) → i < length xs → get_or xs i d ≡ get_or xs i z
-any_default [] i d z h = absurd (omega arith)
-any_default (x ∷ xs) zero d z h = refl
-any_default (x ∷ xs) (suc i) d z h = any_default xs i d z (omega arith)
-
 module _ {A : Type 0} (z : A) (xs : List A) (s c w p : ℕ) where
   pub grid_read : (d : A) → (ltb s 16 && (ltb c 8 && ltb w 4)) ≡ true → p ≡ (s * 8 + c) * 4 + w → length xs ≡ 512 → get_or xs p d ≡ grid z xs s c w
-  grid_read d t e n = let i = inside₃ s c w t in rw e (any_default xs ((s * 8 + c) * 4 + w) d z (omega arith) ∙ grid_at z xs s c w i.0 i.1 i.2)
+  grid_read d t e n = let i = inside₃ s c w t in rw e (get_or_default xs ((s * 8 + c) * 4 + w) d z (omega arith) ∙ grid_at z xs s c w i.0 i.1 i.2)
 
   pub grid_none : (ltb s 16 && (ltb c 8 && ltb w 4)) ≡ false → z ≡ grid z xs s c w
   grid_none f = grid_past z xs s c w (outside₃ s c w f)
@@ -182,7 +177,7 @@ module _ {A : Type 0} (z : A) (xs : List A) (s c w p : ℕ) where
 
 module _ {A : Type 0} (z : A) (xs : List A) (s c p : ℕ) where
   pub rows_read : (d : A) → (ltb s 16 && ltb c 8) ≡ true → p ≡ s * 8 + c → length xs ≡ 128 → get_or xs p d ≡ rows z xs s c
-  rows_read d t e n = let i = inside₂ s c t in rw e (any_default xs (s * 8 + c) d z (omega arith) ∙ rows_at z xs s c i.0 i.1)
+  rows_read d t e n = let i = inside₂ s c t in rw e (get_or_default xs (s * 8 + c) d z (omega arith) ∙ rows_at z xs s c i.0 i.1)
 
   pub rows_none : (ltb s 16 && ltb c 8) ≡ false → z ≡ rows z xs s c
   rows_none f = rows_past z xs s c (outside₂ s c f)
