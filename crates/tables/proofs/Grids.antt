@@ -1,8 +1,9 @@
 -- Reading and changing a table is reading and changing its function.
-use Rattle.std.proofs.Common.{◌≡◌, ℕ, zero, suc, ◌+◌, ◌*◌, ◌<◌, ◌≤◌, Bool, true, false, cond, ◌&&◌, eqb, ltb, List, [], ◌∷◌, length, get_or, set, replicate, sym, refl, ap, ◌∙◌, arith, get_or-set_other, get_or-set_same}
+use Rattle.std.proofs.Common.{◌≡◌, ℕ, zero, suc, ◌+◌, ◌*◌, ◌<◌, ◌≤◌, Bool, true, false, cond, ◌&&◌, eqb, ltb, List, length, get_or, set, replicate, Some, None, ⊎_elim, sym, refl, ap, ◌∙◌, arith, get_or-set_other, get_or-set_same}
 use mathlib.Core.Path.{fun_ext}
 use Rattle.std.proofs.lemmas.Bool.Decides.{nat_tests}
-use Rattle.std.proofs.lemmas.Bool.{both_ways, eq-eqb, eqb-true, lt-ltb, le-ltb, ltb-true, and_parts, and_from, cond-true, cond-false}
+use Rattle.std.proofs.lemmas.Bool.{cases_lt, both_ways, eq-eqb, eqb-true, lt-ltb, le-ltb, ltb-true, and_parts, and_from, cond-true, cond-false}
+use Rattle.std.proofs.lemmas.List.{get_or_past, get_or_default}
 use Rattle.machine.specs.Tables.{put, put₂, put₃}
 use Rattle.tables.specs.Grids.{column, rows, grid, everywhere, everywhere₂, everywhere₃}
 
@@ -23,9 +24,6 @@ module _ {A : Type 0} (z : A) where
       both (ltb j n) (ltb i n && eqb j i) v (get_or (set xs i v) j z) (get_or xs j z) z
       (λ t. element z xs i j v (rw l h) (ltb i n && eqb j i) (λ e. eqb-true j i (and_parts (ltb i n) (eqb j i) e).1) (λ e q. let u : (ltb i n && eqb j i) ≡ true = grind (arith, nat_tests) in grind (arith, nat_tests)))
       (λ f. grind (arith, nat_tests)))
-
-  pub column_outside : (n : ℕ) (f : ℕ → A) (i : ℕ) (v : A) → n ≤ i → f ≡ put n f i v
-  column_outside n f i v h = fun_ext (λ j. rw (le-ltb i n h) refl)
 
 -- a choice between functions, at an argument
 at_one : {A : Type 0} (t : Bool) (f g : ℕ → A) (k : ℕ) → cond t f g k ≡ cond t (f k) (g k)
@@ -102,29 +100,6 @@ module _ {A : Type 0} (z : A) (xs : List A) (s c w : ℕ) (v : A) (hs : s < 16) 
       not_same : (j k l : ℕ) → (ltb j 16 && (ltb k 8 && ltb l 4)) ≡ false → (eqb j s && (eqb k c && eqb l w)) ≡ false
       not_same j k l f = grind (arith, nat_tests)
 
--- a key outside: nothing is read, nothing changes
-pub rows_outside : {A : Type 0} (f : ℕ → ℕ → A) (s c : ℕ) (v : A) → (s < 16 → c < 8 → ⊥) → f ≡ put₂ 16 8 f s c v
-rows_outside f s c v out = fun_ext (λ j. fun_ext (λ k. go j k (ltb s 16) refl (ltb c 8) refl (eqb j s) refl ∙ sym (put₂_at f s c v j k)))
-  where
-    go : (j k : ℕ) (a : Bool) → ltb s 16 ≡ a → (b : Bool) → ltb c 8 ≡ b → (e : Bool) → eqb j s ≡ e → f j k ≡ cond (a && e) (cond (b && eqb k c) v (f s k)) (f j k)
-    go j k true p true q e r = absurd (out (ltb-true s 16 p) (ltb-true c 8 q))
-    go j k true p false q true r = rw (eqb-true j s r) refl
-    go j k true p false q false r = refl
-    go j k false p b q e r = refl
-
-pub grid_outside : {A : Type 0} (f : ℕ → ℕ → ℕ → A) (s c w : ℕ) (v : A) → (s < 16 → c < 8 → w < 4 → ⊥) → f ≡ put₃ 16 8 4 f s c w v
-grid_outside f s c w v out = fun_ext (λ j. fun_ext (λ k. fun_ext (λ l. go j k l (ltb s 16) refl (ltb c 8) refl (ltb w 4) refl (eqb j s) refl (eqb k c) refl ∙ sym (put₃_at f s c w v j k l))))
-  where
-    go : (j k l : ℕ) (a : Bool) → ltb s 16 ≡ a → (b : Bool) → ltb c 8 ≡ b → (d : Bool) → ltb w 4 ≡ d → (e : Bool) → eqb j s ≡ e → (g : Bool) → eqb k c ≡ g
-        → f j k l ≡ cond (a && e) (cond (b && g) (cond (d && eqb l w) v (f s c l)) (f s k l)) (f j k l)
-    go j k l true p true q true t e r g u = absurd (out (ltb-true s 16 p) (ltb-true c 8 q) (ltb-true w 4 t))
-    go j k l true p true q false t true r true u = rw (eqb-true j s r, eqb-true k c u) refl
-    go j k l true p true q false t true r false u = rw (eqb-true j s r) refl
-    go j k l true p true q false t false r g u = refl
-    go j k l true p false q d t true r g u = rw (eqb-true j s r) refl
-    go j k l true p false q d t false r g u = refl
-    go j k l false p b q d t e r g u = refl
-
 -- what a table shows in its places, and outside them
 module _ {A : Type 0} (z : A) (xs : List A) where
   pub column_at : (n i : ℕ) → i < n → get_or xs i z ≡ column n z xs i
@@ -134,6 +109,9 @@ module _ {A : Type 0} (z : A) (xs : List A) where
   pub column_past : (n i : ℕ) → n ≤ i → z ≡ column n z xs i
   unfolding column
   column_past n i h = sym (cond-false _ _ _ (le-ltb i n h))
+
+  pub column_whole : (n i : ℕ) → length xs ≡ n → get_or xs i z ≡ column n z xs i
+  column_whole n i l = ⊎_elim (λ (h : i < n). column_at n i h) (λ h. get_or_past xs i z (rw l h) ∙ column_past n i h) (cases_lt i n)
 
   pub rows_at : (s c : ℕ) → s < 16 → c < 8 → get_or xs (s * 8 + c) z ≡ rows z xs s c
   unfolding rows
@@ -162,6 +140,15 @@ module _ {A : Type 0} (z : A) (xs : List A) where
       past true p false q d r = refl
       past false p b q d r = refl
 
+-- what the place of a key, or none, says of the test of the key
+pub placed : (t : Bool) (p q : ℕ) → Some p ≡ cond t (Some q) None → (t ≡ true) × (p ≡ q)
+placed true p q e = (refl, cc)
+placed false p q e = let z : ◌≡◌ {A = ℕ} 0 1 = cc in absurd (omega arith)
+
+pub unplaced : (t : Bool) (q : ℕ) → None ≡ cond t (Some q) None → t ≡ false
+unplaced true q e = let z : ◌≡◌ {A = ℕ} 0 1 = cc in absurd (omega arith)
+unplaced false q e = refl
+
 -- ---- the same, as the code has it: by the test of a key, at a place, at any default
 
 inside₃ : (s c w : ℕ) → (ltb s 16 && (ltb c 8 && ltb w 4)) ≡ true → (s < 16) × (c < 8) × (w < 4)
@@ -178,14 +165,9 @@ inside₂ s c t = let p = and_parts (ltb s 16) (ltb c 8) t in (ltb-true s 16 p.0
 outside₂ : (s c : ℕ) → (ltb s 16 && ltb c 8) ≡ false → s < 16 → c < 8 → ⊥
 outside₂ s c f hs hc = both_ways _ f (and_from _ _ (lt-ltb s 16 hs) (lt-ltb c 8 hc))
 
-any_default : {A : Type 0} (xs : List A) (i : ℕ) (d z : A) → i < length xs → get_or xs i d ≡ get_or xs i z
-any_default [] i d z h = absurd (omega arith)
-any_default (x ∷ xs) zero d z h = refl
-any_default (x ∷ xs) (suc i) d z h = any_default xs i d z (omega arith)
-
 module _ {A : Type 0} (z : A) (xs : List A) (s c w p : ℕ) where
   pub grid_read : (d : A) → (ltb s 16 && (ltb c 8 && ltb w 4)) ≡ true → p ≡ (s * 8 + c) * 4 + w → length xs ≡ 512 → get_or xs p d ≡ grid z xs s c w
-  grid_read d t e n = let i = inside₃ s c w t in rw e (any_default xs ((s * 8 + c) * 4 + w) d z (omega arith) ∙ grid_at z xs s c w i.0 i.1 i.2)
+  grid_read d t e n = let i = inside₃ s c w t in rw e (get_or_default xs ((s * 8 + c) * 4 + w) d z (omega arith) ∙ grid_at z xs s c w i.0 i.1 i.2)
 
   pub grid_none : (ltb s 16 && (ltb c 8 && ltb w 4)) ≡ false → z ≡ grid z xs s c w
   grid_none f = grid_past z xs s c w (outside₃ s c w f)
@@ -193,24 +175,15 @@ module _ {A : Type 0} (z : A) (xs : List A) (s c w p : ℕ) where
   pub grid_written : (v : A) → (ltb s 16 && (ltb c 8 && ltb w 4)) ≡ true → p ≡ (s * 8 + c) * 4 + w → length xs ≡ 512 → grid z (set xs p v) ≡ put₃ 16 8 4 (grid z xs) s c w v
   grid_written v t e n = let i = inside₃ s c w t in rw e (grid_inside z xs s c w v i.0 i.1 i.2 n)
 
-  pub grid_kept : (v : A) → (ltb s 16 && (ltb c 8 && ltb w 4)) ≡ false → grid z xs ≡ put₃ 16 8 4 (grid z xs) s c w v
-  grid_kept v f = grid_outside (grid z xs) s c w v (outside₃ s c w f)
-
 module _ {A : Type 0} (z : A) (xs : List A) (s c p : ℕ) where
   pub rows_read : (d : A) → (ltb s 16 && ltb c 8) ≡ true → p ≡ s * 8 + c → length xs ≡ 128 → get_or xs p d ≡ rows z xs s c
-  rows_read d t e n = let i = inside₂ s c t in rw e (any_default xs (s * 8 + c) d z (omega arith) ∙ rows_at z xs s c i.0 i.1)
+  rows_read d t e n = let i = inside₂ s c t in rw e (get_or_default xs (s * 8 + c) d z (omega arith) ∙ rows_at z xs s c i.0 i.1)
 
   pub rows_none : (ltb s 16 && ltb c 8) ≡ false → z ≡ rows z xs s c
   rows_none f = rows_past z xs s c (outside₂ s c f)
 
   pub rows_written : (v : A) → (ltb s 16 && ltb c 8) ≡ true → p ≡ s * 8 + c → length xs ≡ 128 → rows z (set xs p v) ≡ put₂ 16 8 (rows z xs) s c v
   rows_written v t e n = let i = inside₂ s c t in rw e (rows_inside z xs s c v i.0 i.1 n)
-
-  pub rows_kept : (v : A) → (ltb s 16 && ltb c 8) ≡ false → rows z xs ≡ put₂ 16 8 (rows z xs) s c v
-  rows_kept v f = rows_outside (rows z xs) s c v (outside₂ s c f)
-
-pub column_read : {A : Type 0} (z : A) (xs : List A) (n i : ℕ) (d : A) → i < n → length xs ≡ n → get_or xs i d ≡ column n z xs i
-column_read z xs n i d h l = any_default xs i d z (rw l h) ∙ column_at z xs n i h
 
 -- ---- new tables
 

@@ -1,10 +1,56 @@
-ghost use Rattle.std.specs.Prelude.{◌≡◌, length};
-
-pub mod places;
+ghost use Rattle.std.specs.Prelude.{◌≡◌, ◌<◌, ◌+◌, ◌*◌, ◌&&◌, cond, length, Some, None, IfSome, nat_lt};
 
 // Something for each cache in each set: room for 16 sets of 8 caches.
 #[derive(Drop)]
 pub struct BySetCache<T> {
     cells: [T; 128],
+    zero: T,
     ghost sized: { length cells ≡ 128 },
+}
+
+// The place of a key in the array, if it lies in the table.
+fn place(set: u8, cache: u8) -> Option<usize>
+    ensures value { result ≡ cond (nat_lt set 16 && nat_lt cache 8) (Some (set * 8 + cache)) None }
+    ensures within { IfSome result (λ p. p < 128) }
+{
+    if set < 16 && cache < 8 {
+        Some(set as usize * 8 + cache as usize)
+    } else {
+        None
+    }
+}
+
+impl<T: Copy> BySetCache<T> {
+    ghost use Rattle.machine.specs.Tables.{put₂};
+    ghost use Rattle.tables.specs.Grids.{everywhere₂};
+    ghost use Rattle.tables.specs.Shown.{shown₂};
+
+    // A table that shows `zero` everywhere.
+    pub fn new(zero: T) -> BySetCache<T>
+        ensures { shown₂ result ≡ everywhere₂ zero }
+    {
+        BySetCache {
+            cells: [zero; 128],
+            zero,
+        }
+    }
+
+    // What stands at a key, and the zero outside the table.
+    pub fn get(&self, set: u8, cache: u8) -> T
+        ensures { result ≡ shown₂ self.now set cache }
+    {
+        match place(set, cache) {
+            Some(at) => self.cells[at],
+            None => self.zero,
+        }
+    }
+
+    // Replaces what stands at a key. Outside the table nothing changes.
+    pub fn put(&mut self, set: u8, cache: u8, value: T)
+        ensures { shown₂ self.new ≡ put₂ 16 8 (shown₂ self.old) set cache value }
+    {
+        if let Some(at) = place(set, cache) {
+            self.cells[at] = value;
+        }
+    }
 }

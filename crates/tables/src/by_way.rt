@@ -1,10 +1,57 @@
-ghost use Rattle.std.specs.Prelude.{◌≡◌, length};
+ghost use Rattle.std.specs.Prelude.{◌≡◌, ◌<◌, ◌+◌, ◌*◌, ◌&&◌, cond, length, Some, None, IfSome, nat_lt};
 
-pub mod places;
-
+// By hand beside `BySetCache`: a table generic in its key would need a key type with a law of its places, which is longer than the two.
 // Something for each way of each cache in each set: room for 16 sets of 8 caches of 4 ways.
 #[derive(Drop)]
 pub struct ByWay<T> {
     cells: [T; 512],
+    zero: T,
     ghost sized: { length cells ≡ 512 },
+}
+
+// The place of a key in the array, if it lies in the table.
+fn place(set: u8, cache: u8, way: u8) -> Option<usize>
+    ensures value { result ≡ cond (nat_lt set 16 && (nat_lt cache 8 && nat_lt way 4)) (Some ((set * 8 + cache) * 4 + way)) None }
+    ensures within { IfSome result (λ p. p < 512) }
+{
+    if set < 16 && cache < 8 && way < 4 {
+        Some((set as usize * 8 + cache as usize) * 4 + way as usize)
+    } else {
+        None
+    }
+}
+
+impl<T: Copy> ByWay<T> {
+    ghost use Rattle.machine.specs.Tables.{put₃};
+    ghost use Rattle.tables.specs.Grids.{everywhere₃};
+    ghost use Rattle.tables.specs.Shown.{shown₃};
+
+    // A table that shows `zero` everywhere.
+    pub fn new(zero: T) -> ByWay<T>
+        ensures { shown₃ result ≡ everywhere₃ zero }
+    {
+        ByWay {
+            cells: [zero; 512],
+            zero,
+        }
+    }
+
+    // What stands at a key, and the zero outside the table.
+    pub fn get(&self, set: u8, cache: u8, way: u8) -> T
+        ensures { result ≡ shown₃ self.now set cache way }
+    {
+        match place(set, cache, way) {
+            Some(at) => self.cells[at],
+            None => self.zero,
+        }
+    }
+
+    // Replaces what stands at a key. Outside the table nothing changes.
+    pub fn put(&mut self, set: u8, cache: u8, way: u8, value: T)
+        ensures { shown₃ self.new ≡ put₃ 16 8 4 (shown₃ self.old) set cache way value }
+    {
+        if let Some(at) = place(set, cache, way) {
+            self.cells[at] = value;
+        }
+    }
 }

@@ -1,13 +1,8 @@
-use Rattle.std.proofs.Common.{sym, ◌∙◌}
-use Rattle.tables.proofs.Grids.{grid_written, grid_kept}
+use Rattle.tables.proofs.Grids.{placed, grid_written}
 use Rattle.tables.proofs.by_way.ByWay.put.Goals as goal
 
-pub returns-then-inside : goal.returns-then-inside
-returns-then-inside g c =
+pub returns-in-Some : goal.returns-in-Some
+returns-in-Some g c =
     let a = c.args in
-    grid_written a.zero a.self.now.cells a.set a.cache a.way c.place.result a.value (sym c.inside.ensures ∙ c.if-inside.true) c.place.ensures a.self.now.sized
-
-pub returns-else-inside : goal.returns-else-inside
-returns-else-inside g c =
-    let a = c.args in
-    grid_kept a.zero a.self.now.cells a.set a.cache a.way 0 a.value (sym c.inside.ensures ∙ c.if-inside.false)
+    let at = placed _ _ _ c.in-Some.ensures.value in
+    grid_written a.self.now.zero a.self.now.cells a.set a.cache a.way _ a.value at.0 at.1 a.self.now.sized

@@ -1,5 +1,0 @@
-use Rattle.tables.proofs.Grids.{column_new}
-use Rattle.tables.proofs.by_set.BySet.new.Goals as goal
-
-pub returns : goal.returns
-returns g c = column_new c.args.zero 16
