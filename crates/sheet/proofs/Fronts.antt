@@ -1,6 +1,6 @@
 -- What stands at the front of bytes, by letter and length; where the bytes after a record lie.
-use Rattle.std.proofs.Common.{◌≡◌, ℕ, suc, ◌+◌, ◌-◌, ◌<◌, ◌≤◌, eqb, leb, List, [], ◌∷◌, length, get_or, take, drop, sym, ap, ◌∙◌, arith}
-use Rattle.std.proofs.lemmas.Bool.{leb-true, cond_both, le-leb, lt-leb, cond-true, cond-false}
+use Rattle.std.proofs.Common.{◌≡◌, ℕ, suc, ◌+◌, ◌-◌, ◌<◌, ◌≤◌, eqb, leb, List, [], ◌∷◌, length, take, drop, sym, ap, ◌∙◌, arith}
+use Rattle.std.proofs.lemmas.Bool.{leb-true, cond_both}
 use Rattle.std.proofs.lemmas.List.{drop-drop, length-drop, take_rest}
 use Rattle.sheet.specs.Bytes.{field}
 use Rattle.sheet.specs.Records.{Item, content, note}
@@ -9,28 +9,6 @@ use Rattle.sheet.specs.Format.{Front, holds, refuses, fixed, sized, lettered, fr
 -- the rest as a slice pattern has it
 abbrev pub rest : ℕ → List ℕ → List ℕ
 rest n bs = take (length bs - n) (drop n bs)
-
-module _ (bs : List ℕ) where
-  pub fixed_there : (n : ℕ) (x y : Item) → n ≤ length bs → y ≡ x → holds y (rest n bs) ≡ fixed n x bs
-  fixed_there n x y h e = rw (e, take_rest) (sym (cond-true _ _ _ (le-leb _ _ h)))
-
-  pub fixed_short : (n : ℕ) (x : Item) → length bs < n → refuses 9 ≡ fixed n x bs
-  fixed_short n x h = sym (cond-false _ _ _ (lt-leb _ _ h))
-
-  pub sized_there : (k n : ℕ) (f : List ℕ → Item) (y : Item) (zs : List ℕ) → k ≤ length bs → n ≤ length (rest k bs) → y ≡ f (take n (rest k bs)) → zs ≡ drop n (rest k bs) → holds y zs ≡ sized k n f bs
-  sized_there k n f y zs h i e d = rw (e, d, take_rest) (sym (cond-true _ _ _ (le-leb _ _ h) ∙ cond-true _ _ _ (le-leb _ _ (rw take_rest at i))))
-
-  pub sized_cut : (k n : ℕ) (f : List ℕ → Item) → k ≤ length bs → length (rest k bs) < n → refuses 9 ≡ sized k n f bs
-  sized_cut k n f h i = sym (cond-true _ _ _ (le-leb _ _ h) ∙ cond-false _ _ _ (lt-leb _ _ (rw take_rest at i)))
-
-  pub sized_short : (k n : ℕ) (f : List ℕ → Item) → length bs < k → refuses 9 ≡ sized k n f bs
-  sized_short k n f h = sym (cond-false _ _ _ (lt-leb _ _ h))
-
--- the front by its letter
-pub at_letter : (bs : List ℕ) (k : ℕ) → 1 ≤ length bs → get_or bs 0 0 ≡ k → lettered k (rest 1 bs) ≡ front bs
-unfolding front
-at_letter [] k h e = absurd (omega arith)
-at_letter (x ∷ bs) k h e = rw (take_rest) (ap (λ n. lettered n bs) (sym e))
 
 -- what follows an item is an end of the bytes
 abbrev pub End : List ℕ → List ℕ → Type 0
