@@ -1,25 +1,27 @@
-ghost use Rattle.std.specs.Prelude.{◌≡◌};
+ghost use Rattle.std.specs.Prelude.{◌≡◌, Some};
 ghost use Rattle.bedrock.specs.Refusals.{number, meaning_of};
+
+use std::fmt;
 
 // Why a call is refused. Numbers 1 to 10 are bad input, 11 to 16 a bad moment.
 #[derive(Clone, Copy, Debug, PartialEq, Eq)]
 pub enum Refusal {
-    NoSuchCache,
-    NoSuchBlock,
-    NoSuchWord,
-    NoSuchChannel,
-    SheetTooLong,
-    BadHead,
-    OutOfBounds,
-    UnknownLetter,
-    CutShort,
-    NoSuchSetOrWay,
-    CacheWaits,
-    ChannelEmpty,
-    SetBusy,
-    NoRoom,
-    LateContent,
-    BufferTooShort,
+    NoSuchCache = 1,
+    NoSuchBlock = 2,
+    NoSuchWord = 3,
+    NoSuchChannel = 4,
+    SheetTooLong = 5,
+    BadHead = 6,
+    OutOfBounds = 7,
+    UnknownLetter = 8,
+    CutShort = 9,
+    NoSuchSetOrWay = 10,
+    CacheWaits = 11,
+    ChannelEmpty = 12,
+    SetBusy = 13,
+    NoRoom = 14,
+    LateContent = 15,
+    BufferTooShort = 16,
 }
 
 impl Refusal {
@@ -27,31 +29,16 @@ impl Refusal {
     pub fn number(self) -> u8
         ensures { result ≡ number self }
     {
-        match self {
-            Refusal::NoSuchCache => 1,
-            Refusal::NoSuchBlock => 2,
-            Refusal::NoSuchWord => 3,
-            Refusal::NoSuchChannel => 4,
-            Refusal::SheetTooLong => 5,
-            Refusal::BadHead => 6,
-            Refusal::OutOfBounds => 7,
-            Refusal::UnknownLetter => 8,
-            Refusal::CutShort => 9,
-            Refusal::NoSuchSetOrWay => 10,
-            Refusal::CacheWaits => 11,
-            Refusal::ChannelEmpty => 12,
-            Refusal::SetBusy => 13,
-            Refusal::NoRoom => 14,
-            Refusal::LateContent => 15,
-            Refusal::BufferTooShort => 16,
-        }
+        self as u8
     }
+}
 
-    // The refusal in words.
-    pub fn meaning(self) -> &'static str
-        ensures { result.now ≡ meaning_of (number self) }
-    {
-        match self {
+// The refusal in words.
+impl fmt::Display for Refusal {
+    ghost output = { λ why. Some (meaning_of (number why)) };
+
+    fn fmt<W: fmt::Write>(&self, f: &mut fmt::Formatter<W>) -> fmt::Result {
+        f.write_str(match self {
             Refusal::NoSuchCache => "no such cache",
             Refusal::NoSuchBlock => "no such block",
             Refusal::NoSuchWord => "no such word",
@@ -68,6 +55,6 @@ impl Refusal {
             Refusal::NoRoom => "no room on a channel",
             Refusal::LateContent => "content after another record",
             Refusal::BufferTooShort => "buffer too short",
-        }
+        })
     }
 }

@@ -48,8 +48,7 @@ pub fn refusal_line(heap: Global, place: usize, why: Refusal) -> Result<String, 
     ensures { IfOk result (λ s. string_bytes s ≡ refusal_line place (number why)) }
 {
     let code = why.number();
-    let meaning = why.meaning();
-    format!(in heap; "{place} no {code} {meaning}\n")
+    format!(in heap; "{place} no {code} {why}\n")
 }
 
 // Number and fields of a record, before the words of a content or the text of a note.
