@@ -18,7 +18,7 @@ abbrev Cut : List ℕ → Front → Type 0
 Cut bs f = (x : Item) (zs : List ℕ) → f ≡ holds x zs → End zs bs
 
 no_item : (bs : List ℕ) (n : ℕ) → Cut bs (refuses n)
-no_item bs n x zs e = let z : ◌≡◌ {A = ℕ} 0 1 = cc in absurd (omega arith)
+no_item bs n x zs e = cc
 
 fixed_end : (n : ℕ) (y : Item) (bs : List ℕ) → Cut bs (fixed n y bs)
 fixed_end n y bs =
@@ -43,7 +43,7 @@ lettered_end k bs =
 
 pub front_end : (bs : List ℕ) (x : Item) (zs : List ℕ) → front bs ≡ holds x zs → End zs bs
 unfolding front
-front_end [] x zs e = let z : ◌≡◌ {A = ℕ} 0 1 = cc in absurd (omega arith)
+front_end [] x zs e = cc
 front_end (b ∷ bs) x zs e = let s : End zs bs = lettered_end b bs x zs e in (suc s.0, omega (arith, s.1), s.2)
 
 -- an item drawn from xs at i: what follows it lies in xs, and where
@@ -69,5 +69,5 @@ module _ (xs : List ℕ) (i : ℕ) (x : Item) (zs : List ℕ) (in_xs : i ≤ len
 -- an item takes at least its letter
 pub front_shorter : (bs : List ℕ) (x : Item) (zs : List ℕ) → front bs ≡ holds x zs → length zs < length bs
 unfolding front
-front_shorter [] x zs e = let z : ◌≡◌ {A = ℕ} 0 1 = cc in absurd (omega arith)
+front_shorter [] x zs e = cc
 front_shorter (b ∷ bs) x zs e = let s : End zs bs = lettered_end b bs x zs e in omega (arith, ap length s.2, length-drop s.0 bs)
