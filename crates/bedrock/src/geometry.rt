@@ -4,7 +4,7 @@ pub mod sizes;
 
 // How large a fabric is: 1 to 8 caches, 1 to 16 sets, 1 to 4 ways in each set, 1 to 1,024 blocks.
 // Every geometry in existence keeps these bounds, so nothing that holds one tests them again.
-#[derive(Clone, Copy)]
+#[derive(Clone, Copy, Debug, PartialEq, Eq)]
 pub struct Geometry {
     caches: u8,
     sets: u8,

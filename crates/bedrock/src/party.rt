@@ -1,26 +1,12 @@
 ghost use Rattle.std.specs.Prelude.{◌≡◌};
 ghost use Rattle.bedrock.specs.declared.party.Party.{Party};
-ghost use Rattle.bedrock.specs.Parties.{same_party};
 
 // Who sends and receives messages.
-#[derive(Clone, Copy)]
+#[derive(Clone, Copy, Debug, PartialEq, Eq)]
 pub enum Party {
     Cache(u8),
     Directory,
     Memory,
-}
-
-impl Party {
-    pub fn same(self, other: Party) -> bool
-        ensures { result ≡ same_party self other }
-    {
-        match (self, other) {
-            (Party::Cache(a), Party::Cache(b)) => a == b,
-            (Party::Directory, Party::Directory) => true,
-            (Party::Memory, Party::Memory) => true,
-            _ => false,
-        }
-    }
 }
 
 // A message that says who sent it and who is to get it.

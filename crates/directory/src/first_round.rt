@@ -49,7 +49,7 @@ impl Directory {
     fn is_other_sharer(&self, requestor: u8, block: u16, cache: u8) -> bool
         ensures { result ≡ (sharing (shown_state (alone self.now) cache block) && not (cache == requestor)) }
     {
-        self.shown_state(cache, block).same(State::S) & (cache != requestor)
+        self.shown_state(cache, block) == State::S && cache != requestor
     }
 
     // Such a cache lets go of the block.

@@ -65,7 +65,7 @@ impl Directory {
         ensures { result ≡ lowest (λ c. sharing (shown_state (alone self.now) c block)) self.now.geometry.caches }
     {
         for cache in 0..self.geometry.caches() {
-            if self.shown_state(cache, block).same(State::S) {
+            if self.shown_state(cache, block) == State::S {
                 return Some(cache);
             }
         }

@@ -17,7 +17,7 @@ use tables::by_way::ByWay;
 fn after_write(shown: Entry, block: u16) -> Entry
     ensures { result ≡ dismissed true block shown }
 {
-    if shown.state.same(State::S) & (shown.block == block) {
+    if shown.state == State::S && shown.block == block {
         return Entry::empty();
     }
     shown

@@ -16,7 +16,7 @@ use std::alloc::{AllocError, Global};
 fn kinds_text(heap: Global, head: &Head) -> Result<String, AllocError>
     ensures { IfOk result (λ s. string_bytes s ≡ kinds_text (head_codes head.now).protocol (head_codes head.now).channels (head_codes head.now).memory) }
 {
-    let protocol = head.protocol.name();
+    let protocol = head.protocol;
     let channels = head.channels.name();
     let memory = head.memory.name();
     format!(in heap; "protocol {protocol} channels {channels} memory {memory}")

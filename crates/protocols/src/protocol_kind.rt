@@ -1,8 +1,9 @@
-ghost use Rattle.std.specs.Prelude.{◌≡◌};
+ghost use Rattle.std.specs.Prelude.{◌≡◌, Some};
 ghost use Rattle.bedrock.specs.Refusals.{outcome, code_below};
 ghost use Rattle.protocols.specs.ProtocolKinds.{code_of, name_of};
 
 use bedrock::refusal::Refusal;
+use std::fmt;
 
 // The eight BedRock protocols, by the states that they use.
 #[derive(Clone, Copy, Debug, PartialEq, Eq)]
@@ -17,11 +18,13 @@ pub enum ProtocolKind {
     Moesif,
 }
 
-impl ProtocolKind {
-    // The protocol of a code from 0 to 7.
-    pub fn from_code(code: u8) -> Result<ProtocolKind, Refusal>
-        ensures { outcome code_of result ≡ code_below 8 code }
-    {
+// The protocol of a code from 0 to 7.
+impl TryFrom<u8> for ProtocolKind {
+    type Error = Refusal;
+
+    ghost try_from_gives = { λ code r. outcome code_of r ≡ code_below 8 code };
+
+    fn try_from(code: u8) -> Result<ProtocolKind, Refusal> {
         match code {
             0 => Ok(ProtocolKind::Mi),
             1 => Ok(ProtocolKind::Msi),
@@ -34,26 +37,23 @@ impl ProtocolKind {
             _ => Err(Refusal::OutOfBounds),
         }
     }
+}
 
-    pub fn code(self) -> u8
-        ensures { result ≡ code_of self }
-    {
-        match self {
-            ProtocolKind::Mi => 0,
-            ProtocolKind::Msi => 1,
-            ProtocolKind::Mesi => 2,
-            ProtocolKind::Mesif => 3,
-            ProtocolKind::Mosi => 4,
-            ProtocolKind::Mosif => 5,
-            ProtocolKind::Moesi => 6,
-            ProtocolKind::Moesif => 7,
-        }
+// Its code.
+impl From<ProtocolKind> for u8 {
+    ghost from_gives = { λ kind code. code ≡ code_of kind };
+
+    fn from(kind: ProtocolKind) -> u8 {
+        kind as u8
     }
+}
 
-    pub fn name(self) -> &'static str
-        ensures { result.now ≡ name_of (code_of self) }
-    {
-        match self {
+// Its name.
+impl fmt::Display for ProtocolKind {
+    ghost output = { λ kind. Some (name_of (code_of kind)) };
+
+    fn fmt<W: fmt::Write>(&self, f: &mut fmt::Formatter<W>) -> fmt::Result {
+        f.write_str(match self {
             ProtocolKind::Mi => "MI",
             ProtocolKind::Msi => "MSI",
             ProtocolKind::Mesi => "MESI",
@@ -62,6 +62,6 @@ impl ProtocolKind {
             ProtocolKind::Mosif => "MOSIF",
             ProtocolKind::Moesi => "MOESI",
             ProtocolKind::Moesif => "MOESIF",
-        }
+        })
     }
 }

@@ -1,5 +1,5 @@
 ghost use Rattle.std.specs.Prelude.{◌≡◌};
-ghost use Rattle.protocols.specs.States.{same_state, held, owning, writable, dirty, may_be_dirty};
+ghost use Rattle.protocols.specs.States.{held, owning, writable, dirty, may_be_dirty};
 
 // The state in which a cache has a block: Invalid, Shared, Exclusive, Modified, Owned or Forward.
 // The directory keeps the same states, but cannot tell E from M: a store in E takes M without a message.
@@ -15,12 +15,6 @@ pub enum State {
 }
 
 impl State {
-    pub fn same(self, other: State) -> bool
-        ensures { result ≡ same_state self other }
-    {
-        self as u8 == other as u8
-    }
-
     // Whether the cache has the block, so that a load hits.
     pub fn held(self) -> bool
         ensures { result ≡ held self }

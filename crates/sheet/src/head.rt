@@ -32,11 +32,11 @@ pub struct Head {
 impl TryFrom<HeadCodes> for Head {
     type Error = Refusal;
 
-    ghost try_from_gives = { λ codes result. outcome head_codes result ≡ judged codes };
+    ghost try_from_gives = { λ codes r. outcome head_codes r ≡ judged codes };
 
     fn try_from(codes: HeadCodes) -> Result<Head, Refusal> {
         Ok(Head {
-            protocol: ProtocolKind::from_code(codes.protocol)?,
+            protocol: ProtocolKind::try_from(codes.protocol)?,
             channels: ChannelKind::try_from(codes.channels)?,
             memory: MemoryKind::try_from(codes.memory)?,
             geometry: Geometry::new(codes.caches, codes.sets, codes.ways, codes.blocks)?,
@@ -44,12 +44,13 @@ impl TryFrom<HeadCodes> for Head {
     }
 }
 
+// Its codes.
 impl From<Head> for HeadCodes {
     ghost from_gives = { λ head codes. codes ≡ head_codes head };
 
     fn from(head: Head) -> HeadCodes {
         HeadCodes {
-            protocol: head.protocol.code(),
+            protocol: head.protocol.into(),
             channels: head.channels.into(),
             memory: head.memory.into(),
             caches: head.geometry.caches(),

@@ -17,7 +17,7 @@ pub enum ChannelKind {
 impl TryFrom<u8> for ChannelKind {
     type Error = Refusal;
 
-    ghost try_from_gives = { λ code result. outcome channel_code result ≡ code_below 3 code };
+    ghost try_from_gives = { λ code r. outcome channel_code r ≡ code_below 3 code };
 
     fn try_from(code: u8) -> Result<ChannelKind, Refusal> {
         match code {
@@ -29,18 +29,16 @@ impl TryFrom<u8> for ChannelKind {
     }
 }
 
+// Its code.
 impl From<ChannelKind> for u8 {
-    ghost from_gives = { λ kind code. code ≡ channel_code kind };
+    ghost from_gives = { λ channels code. code ≡ channel_code channels };
 
-    fn from(kind: ChannelKind) -> u8 {
-        match kind {
-            ChannelKind::Unordered => 0,
-            ChannelKind::Paired => 1,
-            ChannelKind::SingleFile => 2,
-        }
+    fn from(channels: ChannelKind) -> u8 {
+        channels as u8
     }
 }
 
+// Its name.
 impl fmt::Display for ChannelKind {
     ghost output = { λ kind. Some (channel_name (channel_code kind)) };
 
@@ -64,7 +62,7 @@ pub enum MemoryKind {
 impl TryFrom<u8> for MemoryKind {
     type Error = Refusal;
 
-    ghost try_from_gives = { λ code result. outcome memory_code result ≡ code_below 2 code };
+    ghost try_from_gives = { λ code r. outcome memory_code r ≡ code_below 2 code };
 
     fn try_from(code: u8) -> Result<MemoryKind, Refusal> {
         match code {
@@ -75,17 +73,16 @@ impl TryFrom<u8> for MemoryKind {
     }
 }
 
+// Its code.
 impl From<MemoryKind> for u8 {
-    ghost from_gives = { λ kind code. code ≡ memory_code kind };
+    ghost from_gives = { λ memory code. code ≡ memory_code memory };
 
-    fn from(kind: MemoryKind) -> u8 {
-        match kind {
-            MemoryKind::Words => 0,
-            MemoryKind::Image => 1,
-        }
+    fn from(memory: MemoryKind) -> u8 {
+        memory as u8
     }
 }
 
+// Its name.
 impl fmt::Display for MemoryKind {
     ghost output = { λ kind. Some (memory_name (memory_code kind)) };
 

@@ -18,7 +18,7 @@ pub struct Paired<T> {
 fn same_pair<T: Routed>(a: &T, b: &T) -> bool
     ensures { result ≡ same_pair T.Routed.from T.Routed.to a.now b.now }
 {
-    a.sender().same(b.sender()) & a.receiver().same(b.receiver())
+    a.sender() == b.sender() && a.receiver() == b.receiver()
 }
 
 impl<T: Copy + Routed> Paired<T> {
