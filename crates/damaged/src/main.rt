@@ -16,8 +16,7 @@ fn listed(heap: Global, bytes: &[u8]) -> anyhow::Result<String>
     ensures { IfOk result (λ text. string_bytes text ≡ listing_of bytes.now) }
 {
     let sheet = UncheckedSheet::new(Vec::from_slice(heap, bytes)?);
-    let lines = list_sheet(heap, sheet)?;
-    Ok(String::from_utf8(lines)?)
+    Ok(list_sheet(heap, sheet)?)
 }
 
 // A good sheet cut at each length: the last line.
@@ -26,7 +25,7 @@ fn print_cuts(rt: &HostRuntime) -> anyhow::Result<()> {
     let sheet = every_record(heap)?;
     let bytes = sheet.as_slice();
     for len in 0..=bytes.len() {
-        let text = listed(heap, &bytes[0..len])?;
+        let text = listed(heap, &bytes[..len])?;
         let line = text.as_str().lines().last().unwrap_or("");
         println!(rt; "cut {len}: {line}")?;
     }
