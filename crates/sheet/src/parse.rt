@@ -8,7 +8,7 @@ use bedrock::refusal::Refusal;
 // A record, and the bytes that follow it.
 type Part<'a> = (Record<'a>, &'a [u8]);
 
-fn load<'a>(fields: &'a [u8]) -> Result<Part<'a>, Refusal>
+fn load(fields: &[u8]) -> Result<Part<'_>, Refusal>
     ensures { part result ≡ load_in fields.now }
 {
     let [cache, lo, hi, word, rest @ ..] = fields else {
@@ -25,7 +25,7 @@ fn load<'a>(fields: &'a [u8]) -> Result<Part<'a>, Refusal>
     ))
 }
 
-fn store<'a>(fields: &'a [u8]) -> Result<Part<'a>, Refusal>
+fn store(fields: &[u8]) -> Result<Part<'_>, Refusal>
     ensures { part result ≡ store_in fields.now }
 {
     let [cache, lo, hi, word, a, b, c, d, e, f, g, h, rest @ ..] = fields else {
@@ -44,7 +44,7 @@ fn store<'a>(fields: &'a [u8]) -> Result<Part<'a>, Refusal>
     ))
 }
 
-fn deliver<'a>(fields: &'a [u8]) -> Result<Part<'a>, Refusal>
+fn deliver(fields: &[u8]) -> Result<Part<'_>, Refusal>
     ensures { part result ≡ deliver_in fields.now }
 {
     let [channel, pick, rest @ ..] = fields else {
@@ -59,7 +59,7 @@ fn deliver<'a>(fields: &'a [u8]) -> Result<Part<'a>, Refusal>
     ))
 }
 
-fn memory_turn<'a>(fields: &'a [u8]) -> Result<Part<'a>, Refusal>
+fn memory_turn(fields: &[u8]) -> Result<Part<'_>, Refusal>
     ensures { part result ≡ turn_in fields.now }
 {
     let [pick, rest @ ..] = fields else {
@@ -68,26 +68,26 @@ fn memory_turn<'a>(fields: &'a [u8]) -> Result<Part<'a>, Refusal>
     Ok((Record::MemoryTurn { pick: *pick }, rest))
 }
 
-fn content<'a>(fields: &'a [u8]) -> Result<Part<'a>, Refusal>
+fn content(fields: &[u8]) -> Result<Part<'_>, Refusal>
     ensures { part result ≡ content_in fields.now }
 {
     let [lo, hi, count, rest @ ..] = fields else {
         return Err(Refusal::CutShort);
     };
-    let size = 16 * *count as usize;
+    let size = 16 * usize::from(*count);
     let (bytes, rest) = rest.split_at_checked(size).ok_or(Refusal::CutShort)?;
     let block = u16::from_le_bytes([*lo, *hi]);
     Ok((Record::Content { block, bytes }, rest))
 }
 
-fn note<'a>(fields: &'a [u8]) -> Result<Part<'a>, Refusal>
+fn note(fields: &[u8]) -> Result<Part<'_>, Refusal>
     ensures { part result ≡ note_in fields.now }
 {
     let [len, rest @ ..] = fields else {
         return Err(Refusal::CutShort);
     };
     let (text, rest) = rest
-        .split_at_checked(*len as usize)
+        .split_at_checked(usize::from(*len))
         .ok_or(Refusal::CutShort)?;
     Ok((Record::Note { text }, rest))
 }
@@ -95,7 +95,7 @@ fn note<'a>(fields: &'a [u8]) -> Result<Part<'a>, Refusal>
 // The record at the front of `bytes`, with what follows it, or none where the sheet ends.
 // The letter says how many bytes belong to it.
 #[tactic(auto, unfolding(crate::specs::Format::front))]
-pub(crate) fn split_record<'a>(bytes: &'a [u8]) -> Result<Option<Part<'a>>, Refusal>
+pub(crate) fn split_record(bytes: &[u8]) -> Result<Option<Part<'_>>, Refusal>
     ensures { split result ≡ front bytes.now }
 {
     match bytes {
