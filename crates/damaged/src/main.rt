@@ -10,14 +10,14 @@ use crate::samples::{HEAD, every_record, filled, with_byte, with_letter, with_nu
 use listing::list::list_sheet;
 use sheet::sheets::UncheckedSheet;
 use std::alloc::Global;
+use std::fmt;
 
 // The lines of the sheet that these bytes are.
 fn listed(heap: Global, bytes: &[u8]) -> anyhow::Result<String>
     ensures { IfOk result (λ text. string_bytes text ≡ listing_of bytes.now) }
 {
     let sheet = UncheckedSheet::new(Vec::from_slice(heap, bytes)?);
-    let lines = list_sheet(heap, sheet)?;
-    Ok(String::from_utf8(lines)?)
+    Ok(list_sheet(heap, sheet)?)
 }
 
 // A good sheet cut at each length: the last line.
@@ -26,7 +26,7 @@ fn print_cuts(rt: &HostRuntime) -> anyhow::Result<()> {
     let sheet = every_record(heap)?;
     let bytes = sheet.as_slice();
     for len in 0..=bytes.len() {
-        let text = listed(heap, &bytes[0..len])?;
+        let text = listed(heap, &bytes[..len])?;
         let line = text.as_str().lines().last().unwrap_or("");
         println!(rt; "cut {len}: {line}")?;
     }
@@ -45,45 +45,86 @@ fn print_letters(rt: &HostRuntime) -> anyhow::Result<()> {
     Ok(())
 }
 
-// A head that differs from a good one in one field: the first line.
-fn print_head(rt: &HostRuntime, field: &str, value: u16, head: &[u8]) -> anyhow::Result<()> {
-    let text = listed(rt.alloc(), head)?;
-    let line = text.as_str().lines().next().unwrap_or("");
-    println!(rt; "head {field} {value}: {line}")?;
-    Ok(())
-}
-
-fn print_bytes(rt: &HostRuntime, field: &str, at: usize, values: &[u8]) -> anyhow::Result<()>
-    requires { at < 13 }
+// A head that differs from a good one in one field, at each of these values: the first line.
+fn print_field<T: Copy + fmt::Display, F: Fn(T) -> [u8; 13]>(
+    rt: &HostRuntime,
+    field: &str,
+    values: &[T],
+    head_with: F,
+) -> anyhow::Result<()>
+    requires { F.IsAlwaysCallable head_with }
 {
     for value in values {
-        print_head(rt, field, u16::from(*value), &with_byte(HEAD, at, *value))?;
-    }
-    Ok(())
-}
-
-fn print_numbers(rt: &HostRuntime, field: &str, at: usize, values: &[u16]) -> anyhow::Result<()>
-    requires { at < 12 }
-{
-    for value in values {
-        print_head(rt, field, *value, &with_number(HEAD, at, *value))?;
+        let text = listed(rt.alloc(), &head_with(*value))?;
+        let line = text.as_str().lines().next().unwrap_or("");
+        println!(rt; "head {field} {value}: {line}")?;
     }
     Ok(())
 }
 
 // Each field of the head at the ends of its bounds, and one past them.
 fn print_heads(rt: &HostRuntime) -> anyhow::Result<()> {
-    print_bytes(rt, "mark 1", 0, &[b'M' - 1, b'M', b'M' + 1])?;
-    print_bytes(rt, "mark 2", 1, &[b'O' - 1, b'O', b'O' + 1])?;
-    print_bytes(rt, "mark 3", 2, &[b'S' - 1, b'S', b'S' + 1])?;
-    print_numbers(rt, "version", 3, &[0, 1, 2, 257])?;
-    print_bytes(rt, "protocol", 5, &[0, 7, 8])?;
-    print_bytes(rt, "channels", 6, &[0, 2, 3])?;
-    print_bytes(rt, "memory", 7, &[0, 1, 2])?;
-    print_bytes(rt, "caches", 8, &[0, 1, 8, 9])?;
-    print_bytes(rt, "sets", 9, &[0, 1, 16, 17])?;
-    print_bytes(rt, "ways", 10, &[0, 1, 4, 5])?;
-    print_numbers(rt, "blocks", 11, &[0, 1, 1024, 1025])
+    print_field(
+        rt,
+        "mark 1",
+        &[b'M' - 1, b'M', b'M' + 1],
+        |value| with_byte(HEAD, 0, value),
+    )?;
+    print_field(
+        rt,
+        "mark 2",
+        &[b'O' - 1, b'O', b'O' + 1],
+        |value| with_byte(HEAD, 1, value),
+    )?;
+    print_field(
+        rt,
+        "mark 3",
+        &[b'S' - 1, b'S', b'S' + 1],
+        |value| with_byte(HEAD, 2, value),
+    )?;
+    print_field(
+        rt,
+        "version",
+        &[0, 1, 2, 257],
+        |value| with_number(HEAD, 3, value),
+    )?;
+    print_field(
+        rt,
+        "protocol",
+        &[0, 7, 8],
+        |value| with_byte(HEAD, 5, value),
+    )?;
+    print_field(
+        rt,
+        "channels",
+        &[0, 2, 3],
+        |value| with_byte(HEAD, 6, value),
+    )?;
+    print_field(rt, "memory", &[0, 1, 2], |value| with_byte(HEAD, 7, value))?;
+    print_field(
+        rt,
+        "caches",
+        &[0, 1, 8, 9],
+        |value| with_byte(HEAD, 8, value),
+    )?;
+    print_field(
+        rt,
+        "sets",
+        &[0, 1, 16, 17],
+        |value| with_byte(HEAD, 9, value),
+    )?;
+    print_field(
+        rt,
+        "ways",
+        &[0, 1, 4, 5],
+        |value| with_byte(HEAD, 10, value),
+    )?;
+    print_field(
+        rt,
+        "blocks",
+        &[0, 1, 1024, 1025],
+        |value| with_number(HEAD, 11, value),
+    )
 }
 
 // The longest sheet, and one byte more: the first line and the last.

@@ -31,11 +31,10 @@ pub(crate) fn with_letter(heap: Global, head: &[u8], letter: u8) -> Result<Vec<u
 }
 
 // The head with another byte at this place.
-pub(crate) fn with_byte(head: [u8; 13], at: usize, byte: u8) -> [u8; 13]
+pub(crate) fn with_byte(mut head: [u8; 13], at: usize, byte: u8) -> [u8; 13]
     requires { at < 13 }
     ensures { result ≡ slice_set head at byte }
 {
-    let mut head = head;
     head[at] = byte;
     head
 }
@@ -51,10 +50,7 @@ pub(crate) fn with_number(head: [u8; 13], at: usize, number: u16) -> [u8; 13]
 
 fn push_note(sheet: &mut Vec<u8>, len: u8) -> Result<(), AllocError> {
     sheet.extend_from_slice(&[b'N', len])?;
-    for _ in 0..len {
-        sheet.push(b'a')?;
-    }
-    Ok(())
+    sheet.extend_from_slice(&[b'a'; 255][..usize::from(len)])
 }
 
 // A head, 127 notes of 255 bytes and a last one: 32,768 bytes where that has 114.

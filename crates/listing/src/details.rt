@@ -1,84 +1,104 @@
-ghost use Rattle.std.specs.Prelude.{◌≡◌, ◌+◌, ◌/◌, ◌<◌, ◌≤◌, ◌++◌, length, IfOk, OnOk};
-ghost use Rattle.sheet.specs.Bytes.{field};
+ghost use Rattle.std.specs.Prelude.{◌≡◌, ◌/◌, ◌++◌, length, Some};
 ghost use Rattle.sheet.specs.Records.{item};
-ghost use Rattle.listing.specs.Lines.{details, escaped, first_words, hex_digit, plain, shown};
+ghost use Rattle.listing.specs.Lines.{details, escaped, first_words, opening, plain, shown};
 
 use sheet::records::Record;
-use std::alloc::{AllocError, Global};
-
-fn hex_digit(digit: u8) -> u8
-    requires { digit < 16 }
-    ensures { result ≡ hex_digit digit }
-{
-    if digit < 10 {
-        b'0' + digit
-    } else {
-        b'a' - 10 + digit
-    }
-}
+use std::fmt;
 
 // Printable ASCII, but for the backslash, which begins an escape.
 fn is_plain(byte: u8) -> bool
     ensures { result ≡ plain byte }
 {
-    byte >= b' ' && byte <= b'~' && byte != b'\\'
+    matches!(byte, b' '..=b'~') && byte != b'\\'
 }
 
-fn push_escaped(out: &mut Vec<u8>, byte: u8) -> Result<(), AllocError>
-    ensures { OnOk result (out.new.items ≡ out.old.items ++ escaped byte) }
-{
-    if is_plain(byte) {
-        out.push(byte)?;
-        return Ok(());
+// A byte as it is shown: itself, or \xNN.
+#[derive(Clone, Copy)]
+struct Escaped(u8);
+
+impl fmt::Display for Escaped {
+    ghost output = { λ e. Some (escaped e.0) };
+
+    #[tactic(auto, using(std::proofs::lemmas::Fmt::hex_byte))]
+    fn fmt<W: fmt::Write>(&self, f: &mut fmt::Formatter<W>) -> fmt::Result {
+        let byte = self.0;
+        if is_plain(byte) {
+            f.write_char(char::from(byte))
+        } else {
+            write!(f, "\\x{byte:02x}")
+        }
     }
-    out.extend_from_slice(&[b'\\', b'x', hex_digit(byte / 16), hex_digit(byte % 16)])
 }
 
-fn shown_text(heap: Global, text: &[u8]) -> Result<Vec<u8>, AllocError>
-    ensures { IfOk result (λ v. v.items ≡ shown text.now) }
-{
-    let mut out = Vec::new(heap);
-    for byte in text {
-        push_escaped(&mut out, *byte)?;
+// The text of a note, byte by byte.
+#[derive(Clone, Copy)]
+struct Shown<'a>(&'a [u8]);
+
+impl fmt::Display for Shown<'_> {
+    ghost output = { λ s. Some (shown s.0.now) };
+
+    #[tactic(auto, using(std::proofs::lemmas::Grind::put_two, crate::proofs::Showing::shown_more))]
+    fn fmt<W: fmt::Write>(&self, f: &mut fmt::Formatter<W>) -> fmt::Result {
+        for byte in self.0 {
+            let byte = Escaped(*byte);
+            write!(f, "{byte}")?;
+        }
+        Ok(())
     }
-    Ok(out)
 }
 
-fn word_at(bytes: &[u8], at: usize) -> u64
-    requires { at + 8 ≤ length bytes.now }
-    ensures { result ≡ field at 8 bytes.now }
-{
-    u64::from_le_bytes([
-        bytes[at],
-        bytes[at + 1],
-        bytes[at + 2],
-        bytes[at + 3],
-        bytes[at + 4],
-        bytes[at + 5],
-        bytes[at + 6],
-        bytes[at + 7],
-    ])
-}
+// The words of a content, each after a space.
+#[derive(Clone, Copy)]
+struct Words<'a>(&'a [u8]);
 
-fn words_text(heap: Global, bytes: &[u8]) -> Result<Vec<u8>, AllocError>
-    ensures { IfOk result (λ v. v.items ≡ first_words (length bytes.now / 8) bytes.now) }
-{
-    let mut out = Vec::new(heap);
-    for i in 0..bytes.len() / 8 {
-        let word = word_at(bytes, 8 * i);
-        let text = format!(in heap; " {word}")?;
-        out.extend_from_slice(text.as_bytes())?;
+impl fmt::Display for Words<'_> {
+    ghost output = { λ w. Some (first_words (length w.0.now / 8) w.0.now) };
+
+    fn fmt<W: fmt::Write>(&self, f: &mut fmt::Formatter<W>) -> fmt::Result {
+        let (words, _) = self.0.as_chunks();
+        for bytes in words {
+            let word = u64::from_le_bytes(*bytes);
+            write!(f, " {word}")?;
+        }
+        Ok(())
     }
-    Ok(out)
 }
 
-// The words of a content, the text of a note; nothing more for any other record.
-pub(crate) fn record_details(heap: Global, rec: &Record<'_>) -> Result<Vec<u8>, AllocError>
-    ensures { IfOk result (λ v. v.items ≡ details (item rec.now)) }
-{
-    match rec {
-        Record::Content { bytes, .. } => words_text(heap, bytes),
-        Record::Note { text } => shown_text(heap, text),
-        _ => Ok(Vec::new(heap)),
+// What the line of a record says after its number.
+#[derive(Clone, Copy)]
+pub(crate) struct Said<'a>(pub(crate) &'a Record<'a>);
+
+impl fmt::Display for Said<'_> {
+    ghost output = { λ s. Some (opening (item s.0.now) ++ details (item s.0.now)) };
+
+    fn fmt<W: fmt::Write>(&self, f: &mut fmt::Formatter<W>) -> fmt::Result {
+        match *self.0 {
+            Record::Load { cache, block, word } => {
+                write!(f, " load cache {cache} block {block} word {word}")
+            }
+            Record::Store {
+                cache,
+                block,
+                word,
+                value,
+            } => write!(
+                f,
+                " store cache {cache} block {block} word {word} value {value}"
+            ),
+            Record::Deliver { channel, pick } => write!(
+                f,
+                " deliver channel {channel} pick {pick}"
+            ),
+            Record::MemoryTurn { pick } => write!(f, " memory turn pick {pick}"),
+            Record::Content { block, bytes } => {
+                let count = bytes.len() / 16;
+                let words = Words(bytes);
+                write!(f, " content block {block} count {count} words{words}")
+            }
+            Record::Note { text } => {
+                let text = Shown(text);
+                write!(f, " note {text}")
+            }
+        }
     }
 }

@@ -1,4 +1,4 @@
-ghost use Rattle.std.specs.Prelude.{◌≡◌, ◌≤◌, ◌++◌, length, IfOk, OnOk};
+ghost use Rattle.std.specs.Prelude.{◌≡◌, ◌≤◌, ◌++◌, length, IfOk, OnOk, string_bytes};
 ghost use Rattle.sheet.specs.Readings.{reading};
 ghost use Rattle.sheet.specs.Reads.{left};
 ghost use Rattle.listing.specs.Listings.{listing_of, reading_lines};
@@ -9,26 +9,23 @@ use sheet::sheets::{CheckedSheet, UncheckedSheet};
 use std::alloc::{AllocError, Global};
 
 // Adds a line for each record that is left, from number 1 on.
-fn list_records(heap: Global, reader: &mut Reader<'_>, out: &mut Vec<u8>) -> Result<(), AllocError>
+fn list_records(heap: Global, reader: &mut Reader<'_>, out: &mut String) -> Result<(), AllocError>
     requires { length (left reader.old) ≤ 32768 }
-    ensures { OnOk result (out.new.items ≡ out.old.items ++ reading_lines 1 (reading (left reader.old))) }
+    ensures { OnOk result (string_bytes out.new ≡ string_bytes out.old ++ reading_lines 1 (reading (left reader.old))) }
 {
-    let mut place = 1usize;
+    // Counted by hand: after a `for` over `1..` one would have to say what follows its last number, which no sheet reaches.
+    let mut place = 1;
     loop {
         match reader.next_record() {
-            Ok(next) => match next {
-                Some(rec) => {
-                    let line = record_line(heap, place, &rec)?;
-                    out.extend_from_slice(line.as_slice())?;
-                    place += 1;
-                }
-                None => {
-                    return Ok(());
-                }
-            },
+            Ok(Some(rec)) => {
+                let line = record_line(heap, place, &rec)?;
+                out.push_str(line.as_str())?;
+                place += 1;
+            }
+            Ok(None) => return Ok(()),
             Err(why) => {
                 let line = refusal_line(heap, place, why)?;
-                out.extend_from_slice(line.as_bytes())?;
+                out.push_str(line.as_str())?;
                 return Ok(());
             }
         }
@@ -36,25 +33,20 @@ fn list_records(heap: Global, reader: &mut Reader<'_>, out: &mut Vec<u8>) -> Res
 }
 
 // The lines of a sheet whose head is good.
-fn list_checked(heap: Global, sheet: &CheckedSheet) -> Result<Vec<u8>, AllocError>
-    ensures { IfOk result (λ v. v.items ≡ listing_of sheet.now.bytes.items) }
+fn list_checked(heap: Global, sheet: &CheckedSheet) -> Result<String, AllocError>
+    ensures { IfOk result (λ s. string_bytes s ≡ listing_of sheet.now.bytes.items) }
 {
-    let line = head_line(heap, &sheet.head())?;
-    let mut out = Vec::from_slice(heap, line.as_bytes())?;
-    let mut reader = sheet.records();
-    list_records(heap, &mut reader, &mut out)?;
+    let mut out = head_line(heap, &sheet.head())?;
+    list_records(heap, &mut sheet.records(), &mut out)?;
     Ok(out)
 }
 
 // All lines of a sheet, as they are printed.
-pub fn list_sheet(heap: Global, sheet: UncheckedSheet) -> Result<Vec<u8>, AllocError>
-    ensures { IfOk result (λ v. v.items ≡ listing_of sheet.bytes.items) }
+pub fn list_sheet(heap: Global, sheet: UncheckedSheet) -> Result<String, AllocError>
+    ensures { IfOk result (λ s. string_bytes s ≡ listing_of sheet.bytes.items) }
 {
     match sheet.check() {
         Ok(good) => list_checked(heap, &good),
-        Err((_, why)) => {
-            let line = refusal_line(heap, 0, why)?;
-            Vec::from_slice(heap, line.as_bytes())
-        }
+        Err((_, why)) => refusal_line(heap, 0, why),
     }
 }

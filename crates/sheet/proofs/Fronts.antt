@@ -1,6 +1,6 @@
 -- What stands at the front of bytes, by letter and length; where the bytes after a record lie.
-use Rattle.std.proofs.Common.{◌≡◌, ℕ, suc, ◌+◌, ◌-◌, ◌<◌, ◌≤◌, eqb, leb, List, [], ◌∷◌, length, get_or, take, drop, sym, ap, ◌∙◌, arith}
-use Rattle.std.proofs.lemmas.Bool.{leb-true, cond_both, le-leb, lt-leb, cond-true, cond-false}
+use Rattle.std.proofs.Common.{◌≡◌, ℕ, suc, ◌+◌, ◌-◌, ◌<◌, ◌≤◌, eqb, leb, List, [], ◌∷◌, length, take, drop, sym, ap, ◌∙◌, arith}
+use Rattle.std.proofs.lemmas.Bool.{leb-true, cond_both}
 use Rattle.std.proofs.lemmas.List.{drop-drop, length-drop, take_rest}
 use Rattle.sheet.specs.Bytes.{field}
 use Rattle.sheet.specs.Records.{Item, content, note}
@@ -10,28 +10,6 @@ use Rattle.sheet.specs.Format.{Front, holds, refuses, fixed, sized, lettered, fr
 abbrev pub rest : ℕ → List ℕ → List ℕ
 rest n bs = take (length bs - n) (drop n bs)
 
-module _ (bs : List ℕ) where
-  pub fixed_there : (n : ℕ) (x y : Item) → n ≤ length bs → y ≡ x → holds y (rest n bs) ≡ fixed n x bs
-  fixed_there n x y h e = rw (e, take_rest) (sym (cond-true _ _ _ (le-leb _ _ h)))
-
-  pub fixed_short : (n : ℕ) (x : Item) → length bs < n → refuses 9 ≡ fixed n x bs
-  fixed_short n x h = sym (cond-false _ _ _ (lt-leb _ _ h))
-
-  pub sized_there : (k n : ℕ) (f : List ℕ → Item) (y : Item) (zs : List ℕ) → k ≤ length bs → n ≤ length (rest k bs) → y ≡ f (take n (rest k bs)) → zs ≡ drop n (rest k bs) → holds y zs ≡ sized k n f bs
-  sized_there k n f y zs h i e d = rw (e, d, take_rest) (sym (cond-true _ _ _ (le-leb _ _ h) ∙ cond-true _ _ _ (le-leb _ _ (rw take_rest at i))))
-
-  pub sized_cut : (k n : ℕ) (f : List ℕ → Item) → k ≤ length bs → length (rest k bs) < n → refuses 9 ≡ sized k n f bs
-  sized_cut k n f h i = sym (cond-true _ _ _ (le-leb _ _ h) ∙ cond-false _ _ _ (lt-leb _ _ (rw take_rest at i)))
-
-  pub sized_short : (k n : ℕ) (f : List ℕ → Item) → length bs < k → refuses 9 ≡ sized k n f bs
-  sized_short k n f h = sym (cond-false _ _ _ (lt-leb _ _ h))
-
--- the front by its letter
-pub at_letter : (bs : List ℕ) (k : ℕ) → 1 ≤ length bs → get_or bs 0 0 ≡ k → lettered k (rest 1 bs) ≡ front bs
-unfolding front
-at_letter [] k h e = absurd (omega arith)
-at_letter (x ∷ bs) k h e = rw (take_rest) (ap (λ n. lettered n bs) (sym e))
-
 -- what follows an item is an end of the bytes
 abbrev pub End : List ℕ → List ℕ → Type 0
 End zs bs = (k : ℕ) × (k ≤ length bs) × (zs ≡ drop k bs)
@@ -40,7 +18,7 @@ abbrev Cut : List ℕ → Front → Type 0
 Cut bs f = (x : Item) (zs : List ℕ) → f ≡ holds x zs → End zs bs
 
 no_item : (bs : List ℕ) (n : ℕ) → Cut bs (refuses n)
-no_item bs n x zs e = let z : ◌≡◌ {A = ℕ} 0 1 = cc in absurd (omega arith)
+no_item bs n x zs e = cc
 
 fixed_end : (n : ℕ) (y : Item) (bs : List ℕ) → Cut bs (fixed n y bs)
 fixed_end n y bs =
@@ -65,7 +43,7 @@ lettered_end k bs =
 
 pub front_end : (bs : List ℕ) (x : Item) (zs : List ℕ) → front bs ≡ holds x zs → End zs bs
 unfolding front
-front_end [] x zs e = let z : ◌≡◌ {A = ℕ} 0 1 = cc in absurd (omega arith)
+front_end [] x zs e = cc
 front_end (b ∷ bs) x zs e = let s : End zs bs = lettered_end b bs x zs e in (suc s.0, omega (arith, s.1), s.2)
 
 -- an item drawn from xs at i: what follows it lies in xs, and where
@@ -91,5 +69,5 @@ module _ (xs : List ℕ) (i : ℕ) (x : Item) (zs : List ℕ) (in_xs : i ≤ len
 -- an item takes at least its letter
 pub front_shorter : (bs : List ℕ) (x : Item) (zs : List ℕ) → front bs ≡ holds x zs → length zs < length bs
 unfolding front
-front_shorter [] x zs e = let z : ◌≡◌ {A = ℕ} 0 1 = cc in absurd (omega arith)
+front_shorter [] x zs e = cc
 front_shorter (b ∷ bs) x zs e = let s : End zs bs = lettered_end b bs x zs e in omega (arith, ap length s.2, length-drop s.0 bs)

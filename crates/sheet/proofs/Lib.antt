@@ -1,3 +1,2 @@
-mod Judging
 pub mod Fronts
 pub mod Readings

@@ -30,22 +30,22 @@ reading_step (b ∷ bs) =
     next_same (reading_by (length bs)) reading (b ∷ bs) (λ zs l. turns_same (length bs) (length zs) zs (omega arith) (omega arith)) (front (b ∷ bs)) refl
 
 not_none : (x : Item) (r : Reading) → after x r ≡ through [] → ⊥
-not_none x (through xs) e = let z : ◌≡◌ {A = ℕ} 0 1 = cc in omega arith
-not_none x (stopped xs n) e = let z : ◌≡◌ {A = ℕ} 0 1 = cc in omega arith
+not_none x (through xs) e = cc
+not_none x (stopped xs n) e = cc
 
 none_at : (f : Front) → next reading f ≡ through [] → f ≡ ends
 none_at ends e = refl
 none_at (holds x zs) e = absurd (not_none x (reading zs) e)
-none_at (refuses n) e = let z : ◌≡◌ {A = ℕ} 0 1 = cc in absurd (omega arith)
+none_at (refuses n) e = cc
 
 more_after : (y x : Item) (xs : List Item) (r : Reading) → after y r ≡ through (x ∷ xs) → (y ≡ x) × (r ≡ through xs)
 more_after y x xs (through ys) e = ((cc), let p : ys ≡ xs = cc in ap through p)
-more_after y x xs (stopped ys n) e = let z : ◌≡◌ {A = ℕ} 0 1 = cc in absurd (omega arith)
+more_after y x xs (stopped ys n) e = cc
 
 more_at : (f : Front) (x : Item) (xs : List Item) → next reading f ≡ through (x ∷ xs) → (zs : List ℕ) × (f ≡ holds x zs) × (reading zs ≡ through xs)
-more_at ends x xs e = let z : ◌≡◌ {A = ℕ} 0 1 = cc in absurd (omega arith)
+more_at ends x xs e = cc
 more_at (holds y zs) x xs e = let p = more_after y x xs (reading zs) e in (zs, ap (λ w. holds w zs) p.0, p.1)
-more_at (refuses n) x xs e = let z : ◌≡◌ {A = ℕ} 0 1 = cc in absurd (omega arith)
+more_at (refuses n) x xs e = cc
 
 -- bytes that read to their end as no record, or as one and more
 pub reading_none : (bs : List ℕ) → reading bs ≡ through [] → front bs ≡ ends
@@ -56,18 +56,18 @@ reading_more bs x xs e = more_at (front bs) x xs (sym (reading_step bs) ∙ e)
 
 -- what a reader's answer tells of the bytes that it had left
 record_at : (f : Front) (bs zs : List ℕ) (x : Item) → Ok (Some x) ≡ answer_at f → zs ≡ left_at f bs → f ≡ holds x zs
-record_at ends bs zs x a g = let z : ◌≡◌ {A = ℕ} 0 1 = cc in absurd (omega arith)
+record_at ends bs zs x a g = cc
 record_at (holds y ws) bs zs x a g = cc
-record_at (refuses n) bs zs x a g = let z : ◌≡◌ {A = ℕ} 0 1 = cc in absurd (omega arith)
+record_at (refuses n) bs zs x a g = cc
 
 end_at : (f : Front) → Ok None ≡ answer_at f → f ≡ ends
 end_at ends a = refl
-end_at (holds y ws) a = let z : ◌≡◌ {A = ℕ} 0 1 = cc in absurd (omega arith)
-end_at (refuses n) a = let z : ◌≡◌ {A = ℕ} 0 1 = cc in absurd (omega arith)
+end_at (holds y ws) a = cc
+end_at (refuses n) a = cc
 
 refusal_at : (f : Front) (n : ℕ) → Err n ≡ answer_at f → f ≡ refuses n
-refusal_at ends n a = let z : ◌≡◌ {A = ℕ} 0 1 = cc in absurd (omega arith)
-refusal_at (holds y ws) n a = let z : ◌≡◌ {A = ℕ} 0 1 = cc in absurd (omega arith)
+refusal_at ends n a = cc
+refusal_at (holds y ws) n a = cc
 refusal_at (refuses m) n a = cc
 
 pub drew_record : (bs zs : List ℕ) (x : Item) → Ok (Some x) ≡ answer_at (front bs) → zs ≡ left_at (front bs) bs → (reading bs ≡ after x (reading zs)) × (length zs < length bs)

@@ -28,36 +28,35 @@ pub struct Head {
     pub geometry: Geometry,
 }
 
-impl HeadCodes {
-    // The head that these codes name, refused with 7 where one is out of its bounds.
-    pub fn judge(self) -> Result<Head, Refusal>
-        ensures { outcome head_codes result ≡ judged self }
-    {
-        let protocol = ProtocolKind::try_from(self.protocol)?;
-        let channels = ChannelKind::from_code(self.channels)?;
-        let memory = MemoryKind::from_code(self.memory)?;
-        let geometry = Geometry::new(self.caches, self.sets, self.ways, self.blocks)?;
+// The head that these codes name, refused with 7 where one is out of its bounds.
+impl TryFrom<HeadCodes> for Head {
+    type Error = Refusal;
+
+    ghost try_from_gives = { λ codes r. outcome head_codes r ≡ judged codes };
+
+    fn try_from(codes: HeadCodes) -> Result<Head, Refusal> {
         Ok(Head {
-            protocol,
-            channels,
-            memory,
-            geometry,
+            protocol: ProtocolKind::try_from(codes.protocol)?,
+            channels: ChannelKind::try_from(codes.channels)?,
+            memory: MemoryKind::try_from(codes.memory)?,
+            geometry: Geometry::new(codes.caches, codes.sets, codes.ways, codes.blocks)?,
         })
     }
 }
 
-impl Head {
-    pub fn codes(&self) -> HeadCodes
-        ensures { result ≡ head_codes self.now }
-    {
+// Its codes.
+impl From<Head> for HeadCodes {
+    ghost from_gives = { λ head codes. codes ≡ head_codes head };
+
+    fn from(head: Head) -> HeadCodes {
         HeadCodes {
-            protocol: u8::from(self.protocol),
-            channels: self.channels.code(),
-            memory: self.memory.code(),
-            caches: self.geometry.caches(),
-            sets: self.geometry.sets(),
-            ways: self.geometry.ways(),
-            blocks: self.geometry.blocks(),
+            protocol: head.protocol.into(),
+            channels: head.channels.into(),
+            memory: head.memory.into(),
+            caches: head.geometry.caches(),
+            sets: head.geometry.sets(),
+            ways: head.geometry.ways(),
+            blocks: head.geometry.blocks(),
         }
     }
 }

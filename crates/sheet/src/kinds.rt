@@ -1,8 +1,9 @@
-ghost use Rattle.std.specs.Prelude.{◌≡◌};
+ghost use Rattle.std.specs.Prelude.{◌≡◌, Some};
 ghost use Rattle.bedrock.specs.Refusals.{outcome, code_below};
 ghost use Rattle.sheet.specs.Kinds.{channel_code, channel_name, memory_code, memory_name};
 
 use bedrock::refusal::Refusal;
+use std::fmt;
 
 // How a channel picks among the messages that wait.
 #[derive(Clone, Copy, Debug, PartialEq, Eq)]
@@ -12,11 +13,13 @@ pub enum ChannelKind {
     SingleFile,
 }
 
-impl ChannelKind {
-    // The kind of a code from 0 to 2.
-    pub fn from_code(code: u8) -> Result<ChannelKind, Refusal>
-        ensures { outcome channel_code result ≡ code_below 3 code }
-    {
+// The kind of a code from 0 to 2.
+impl TryFrom<u8> for ChannelKind {
+    type Error = Refusal;
+
+    ghost try_from_gives = { λ code r. outcome channel_code r ≡ code_below 3 code };
+
+    fn try_from(code: u8) -> Result<ChannelKind, Refusal> {
         match code {
             0 => Ok(ChannelKind::Unordered),
             1 => Ok(ChannelKind::Paired),
@@ -24,25 +27,27 @@ impl ChannelKind {
             _ => Err(Refusal::OutOfBounds),
         }
     }
+}
 
-    pub fn code(self) -> u8
-        ensures { result ≡ channel_code self }
-    {
-        match self {
-            ChannelKind::Unordered => 0,
-            ChannelKind::Paired => 1,
-            ChannelKind::SingleFile => 2,
-        }
+// Its code.
+impl From<ChannelKind> for u8 {
+    ghost from_gives = { λ channels code. code ≡ channel_code channels };
+
+    fn from(channels: ChannelKind) -> u8 {
+        channels as u8
     }
+}
 
-    pub fn name(self) -> &'static str
-        ensures { result.now ≡ channel_name (channel_code self) }
-    {
-        match self {
+// Its name.
+impl fmt::Display for ChannelKind {
+    ghost output = { λ kind. Some (channel_name (channel_code kind)) };
+
+    fn fmt<W: fmt::Write>(&self, f: &mut fmt::Formatter<W>) -> fmt::Result {
+        f.write_str(match self {
             ChannelKind::Unordered => "unordered",
             ChannelKind::Paired => "paired",
             ChannelKind::SingleFile => "single file",
-        }
+        })
     }
 }
 
@@ -53,33 +58,38 @@ pub enum MemoryKind {
     Image,
 }
 
-impl MemoryKind {
-    // The kind of the code 0 or 1.
-    pub fn from_code(code: u8) -> Result<MemoryKind, Refusal>
-        ensures { outcome memory_code result ≡ code_below 2 code }
-    {
+// The kind of the code 0 or 1.
+impl TryFrom<u8> for MemoryKind {
+    type Error = Refusal;
+
+    ghost try_from_gives = { λ code r. outcome memory_code r ≡ code_below 2 code };
+
+    fn try_from(code: u8) -> Result<MemoryKind, Refusal> {
         match code {
             0 => Ok(MemoryKind::Words),
             1 => Ok(MemoryKind::Image),
             _ => Err(Refusal::OutOfBounds),
         }
     }
+}
 
-    pub fn code(self) -> u8
-        ensures { result ≡ memory_code self }
-    {
-        match self {
-            MemoryKind::Words => 0,
-            MemoryKind::Image => 1,
-        }
+// Its code.
+impl From<MemoryKind> for u8 {
+    ghost from_gives = { λ memory code. code ≡ memory_code memory };
+
+    fn from(memory: MemoryKind) -> u8 {
+        memory as u8
     }
+}
 
-    pub fn name(self) -> &'static str
-        ensures { result.now ≡ memory_name (memory_code self) }
-    {
-        match self {
+// Its name.
+impl fmt::Display for MemoryKind {
+    ghost output = { λ kind. Some (memory_name (memory_code kind)) };
+
+    fn fmt<W: fmt::Write>(&self, f: &mut fmt::Formatter<W>) -> fmt::Result {
+        f.write_str(match self {
             MemoryKind::Words => "words",
             MemoryKind::Image => "image",
-        }
+        })
     }
 }

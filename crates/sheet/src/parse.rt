@@ -1,44 +1,39 @@
 ghost use Rattle.std.specs.Prelude.{◌≡◌};
 ghost use Rattle.sheet.specs.Format.{front, load_in, store_in, deliver_in, turn_in, content_in, note_in};
-ghost use Rattle.sheet.specs.Splits.{split};
+ghost use Rattle.sheet.specs.Splits.{part, split};
 
 use crate::records::Record;
 use bedrock::refusal::Refusal;
 
-// What stands at the front of a sheet's bytes: a record with what follows it, or nothing where the sheet ends.
-#[derive(Clone, Copy)]
-pub(crate) enum Split<'a> {
-    End,
-    Item(Record<'a>, &'a [u8]),
-    Refused(Refusal),
-}
+// A record, and the bytes that follow it.
+type Part<'a> = (Record<'a>, &'a [u8]);
 
-fn load<'a>(fields: &'a [u8]) -> Split<'a>
-    ensures { split result ≡ load_in fields.now }
+fn load(fields: &[u8]) -> Result<Part<'_>, Refusal>
+    ensures { part result ≡ load_in fields.now }
 {
     let [cache, lo, hi, word, rest @ ..] = fields else {
-        return Split::Refused(Refusal::CutShort);
+        return Err(Refusal::CutShort);
     };
     let block = u16::from_le_bytes([*lo, *hi]);
-    Split::Item(
+    Ok((
         Record::Load {
             cache: *cache,
             block,
             word: *word,
         },
         rest,
-    )
+    ))
 }
 
-fn store<'a>(fields: &'a [u8]) -> Split<'a>
-    ensures { split result ≡ store_in fields.now }
+fn store(fields: &[u8]) -> Result<Part<'_>, Refusal>
+    ensures { part result ≡ store_in fields.now }
 {
     let [cache, lo, hi, word, a, b, c, d, e, f, g, h, rest @ ..] = fields else {
-        return Split::Refused(Refusal::CutShort);
+        return Err(Refusal::CutShort);
     };
     let block = u16::from_le_bytes([*lo, *hi]);
     let value = u64::from_le_bytes([*a, *b, *c, *d, *e, *f, *g, *h]);
-    Split::Item(
+    Ok((
         Record::Store {
             cache: *cache,
             block,
@@ -46,74 +41,71 @@ fn store<'a>(fields: &'a [u8]) -> Split<'a>
             value,
         },
         rest,
-    )
+    ))
 }
 
-fn deliver<'a>(fields: &'a [u8]) -> Split<'a>
-    ensures { split result ≡ deliver_in fields.now }
+fn deliver(fields: &[u8]) -> Result<Part<'_>, Refusal>
+    ensures { part result ≡ deliver_in fields.now }
 {
     let [channel, pick, rest @ ..] = fields else {
-        return Split::Refused(Refusal::CutShort);
+        return Err(Refusal::CutShort);
     };
-    Split::Item(
+    Ok((
         Record::Deliver {
             channel: *channel,
             pick: *pick,
         },
         rest,
-    )
+    ))
 }
 
-fn memory_turn<'a>(fields: &'a [u8]) -> Split<'a>
-    ensures { split result ≡ turn_in fields.now }
+fn memory_turn(fields: &[u8]) -> Result<Part<'_>, Refusal>
+    ensures { part result ≡ turn_in fields.now }
 {
     let [pick, rest @ ..] = fields else {
-        return Split::Refused(Refusal::CutShort);
+        return Err(Refusal::CutShort);
     };
-    Split::Item(Record::MemoryTurn { pick: *pick }, rest)
+    Ok((Record::MemoryTurn { pick: *pick }, rest))
 }
 
-fn content<'a>(fields: &'a [u8]) -> Split<'a>
-    ensures { split result ≡ content_in fields.now }
+fn content(fields: &[u8]) -> Result<Part<'_>, Refusal>
+    ensures { part result ≡ content_in fields.now }
 {
     let [lo, hi, count, rest @ ..] = fields else {
-        return Split::Refused(Refusal::CutShort);
+        return Err(Refusal::CutShort);
     };
-    let size = 16 * *count as usize;
-    if rest.len() < size {
-        return Split::Refused(Refusal::CutShort);
-    }
+    let size = 16 * usize::from(*count);
+    let (bytes, rest) = rest.split_at_checked(size).ok_or(Refusal::CutShort)?;
     let block = u16::from_le_bytes([*lo, *hi]);
-    let (bytes, rest) = rest.split_at(size);
-    Split::Item(Record::Content { block, bytes }, rest)
+    Ok((Record::Content { block, bytes }, rest))
 }
 
-fn note<'a>(fields: &'a [u8]) -> Split<'a>
-    ensures { split result ≡ note_in fields.now }
+fn note(fields: &[u8]) -> Result<Part<'_>, Refusal>
+    ensures { part result ≡ note_in fields.now }
 {
     let [len, rest @ ..] = fields else {
-        return Split::Refused(Refusal::CutShort);
+        return Err(Refusal::CutShort);
     };
-    let size = *len as usize;
-    if rest.len() < size {
-        return Split::Refused(Refusal::CutShort);
-    }
-    let (text, rest) = rest.split_at(size);
-    Split::Item(Record::Note { text }, rest)
+    let (text, rest) = rest
+        .split_at_checked(usize::from(*len))
+        .ok_or(Refusal::CutShort)?;
+    Ok((Record::Note { text }, rest))
 }
 
-// The record at the front of `bytes`, with what follows it. The letter says how many bytes belong to it.
-pub(crate) fn split_record<'a>(bytes: &'a [u8]) -> Split<'a>
+// The record at the front of `bytes`, with what follows it, or none where the sheet ends.
+// The letter says how many bytes belong to it.
+#[tactic(auto, unfolding(crate::specs::Format::front))]
+pub(crate) fn split_record(bytes: &[u8]) -> Result<Option<Part<'_>>, Refusal>
     ensures { split result ≡ front bytes.now }
 {
     match bytes {
-        [] => Split::End,
-        [b'L', fields @ ..] => load(fields),
-        [b'S', fields @ ..] => store(fields),
-        [b'D', fields @ ..] => deliver(fields),
-        [b'M', fields @ ..] => memory_turn(fields),
-        [b'C', fields @ ..] => content(fields),
-        [b'N', fields @ ..] => note(fields),
-        [_, ..] => Split::Refused(Refusal::UnknownLetter),
+        [] => Ok(None),
+        [b'L', fields @ ..] => Ok(Some(load(fields)?)),
+        [b'S', fields @ ..] => Ok(Some(store(fields)?)),
+        [b'D', fields @ ..] => Ok(Some(deliver(fields)?)),
+        [b'M', fields @ ..] => Ok(Some(memory_turn(fields)?)),
+        [b'C', fields @ ..] => Ok(Some(content(fields)?)),
+        [b'N', fields @ ..] => Ok(Some(note(fields)?)),
+        [_, ..] => Err(Refusal::UnknownLetter),
     }
 }

@@ -1,7 +1,7 @@
 -- What a page holds, as the writer goes on.
-use Rattle.std.proofs.Common.{◌≡◌, ℕ, ◌+◌, ◌≤◌, true, List, [], ◌∷◌, ◌++◌, length, take, drop, sym, refl, ap, ◌∙◌, subst, append_assoc, arith}
+use Rattle.std.proofs.Common.{◌≡◌, ℕ, ◌+◌, ◌≤◌, true, List, [], ◌∷◌, ◌++◌, length, take, sym, refl, ap, ◌∙◌, subst, append_assoc, arith}
 use Rattle.std.specs.List.{AllByRecursion}
-use Rattle.std.proofs.lemmas.List.{append-nil, length-append, length-take, length-take-le, take_at}
+use Rattle.std.proofs.lemmas.List.{append-nil, length-take}
 use Rattle.sheet.specs.declared.head.HeadCodes.{HeadCodes}
 use Rattle.sheet.specs.Heads.{in_bounds, head_bytes}
 use Rattle.sheet.specs.Records.{Item, load, store, deliver, turn, content, note}
@@ -9,6 +9,7 @@ use Rattle.sheet.specs.Format.{encode, size, proper}
 use Rattle.writer.specs.Writes.{Page, pasted, sheet_on}
 use Rattle.writer.specs.RoundTrips.{written, sheet_bytes, InFields, Holds, ReadsAs}
 use Rattle.writer.proofs.Ends.{Fits}
+use Rattle.writer.proofs.Pastes.{taken}
 use Rattle.writer.proofs.RoundTrips.{reads_back}
 
 -- a record is as long as its size says
@@ -28,16 +29,9 @@ all_more : (P : Item → Type 0) (xs : List Item) (x : Item) → AllByRecursion 
 all_more P [] x h p = (p, tt)
 all_more P (y ∷ xs) x h p = (h.0, all_more P xs x h.1 p)
 
--- what was written before the end and at it
-pasted_front : (bs : List ℕ) (i : ℕ) (ys : List ℕ) → i ≤ length bs → take (i + length ys) (pasted bs i ys) ≡ take i bs ++ ys
-unfolding pasted
-pasted_front bs i ys h =
-    let l : length (take i bs ++ ys) ≡ i + length ys = rw (length-append, length-take-le) in
-    rw (← append_assoc (take i bs) ys (drop (i + length ys) bs)) (take_at _ _ _ l)
-
 pub holds_none : (bs ys : List ℕ) (h : HeadCodes) → in_bounds h ≡ true → ys ≡ pasted bs 0 (head_bytes h) → Holds (record { bytes = ys; end = 13 }) h []
 holds_none bs ys h b e = record {
-  bytes = ap (take 13) e ∙ pasted_front bs 0 (head_bytes h) (omega arith) ∙ sym (append-nil (head_bytes h));
+  bytes = ap (take 13) e ∙ taken bs 0 (head_bytes h) (omega arith) ∙ sym (append-nil (head_bytes h));
   takes = record { bounds = b; fields = tt; lengths = tt; few = omega arith };
 }
 
@@ -45,7 +39,7 @@ module _ (p q : Page) (h : HeadCodes) (xs : List Item) (x : Item) (held : Holds 
   sheet_more : q.bytes ≡ pasted p.bytes p.end (encode x) → sheet_on q ≡ sheet_bytes h (xs ++ x ∷ [])
   sheet_more e =
       let n : q.end ≡ p.end + length (encode x) = omega (arith, fits.ends, size_is x) in
-      rw (n, e) (pasted_front p.bytes p.end (encode x) (omega (arith, fits.within)))
+      rw (n, e) (taken p.bytes p.end (encode x) (omega (arith, fits.within)))
       ∙ ap (λ l. l ++ encode x) held.bytes
       ∙ append_assoc (head_bytes h) (written xs) (encode x)
       ∙ ap (λ l. head_bytes h ++ l) (sym (written_more xs x))

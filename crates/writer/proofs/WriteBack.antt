@@ -44,7 +44,7 @@ abbrev Back : ℕ → List ℕ → Front → Type 0
 Back k bs f = (x : Item) (zs : List ℕ) → f ≡ holds x zs → k ∷ bs ≡ encode x ++ zs
 
 no_record : (k : ℕ) (bs : List ℕ) (n : ℕ) → Back k bs (refuses n)
-no_record k bs n x zs e = let z : ◌≡◌ {A = ℕ} 0 1 = cc in absurd (omega arith)
+no_record k bs n x zs e = cc
 
 glue : (k : ℕ) (x y : Item) (bs ws ds zs : List ℕ) → y ≡ x → ds ≡ zs → bs ≡ ws ++ ds → k ∷ ws ≡ encode y → k ∷ bs ≡ encode x ++ zs
 glue k x y bs ws ds zs x_is z_is u w =
@@ -82,7 +82,7 @@ lettered_back k bs by =
 
 front_back : (bs : List ℕ) (x : Item) (zs : List ℕ) → Bytes bs → front bs ≡ holds x zs → bs ≡ encode x ++ zs
 unfolding front
-front_back [] x zs h e = let z : ◌≡◌ {A = ℕ} 0 1 = cc in absurd (omega arith)
+front_back [] x zs h e = cc
 front_back (b ∷ bs) x zs h e = lettered_back b bs h.1 x zs e
 
 -- a letter with what follows it is never the end
@@ -90,10 +90,10 @@ abbrev Some : Front → Type 0
 Some f = f ≡ ends → ⊥
 
 some_record : (x : Item) (zs : List ℕ) → Some (holds x zs)
-some_record x zs e = let z : ◌≡◌ {A = ℕ} 0 1 = cc in omega arith
+some_record x zs e = cc
 
 some_refusal : (n : ℕ) → Some (refuses n)
-some_refusal n e = let z : ◌≡◌ {A = ℕ} 0 1 = cc in omega arith
+some_refusal n e = cc
 
 fixed_some : (n : ℕ) (x : Item) (bs : List ℕ) → Some (fixed n x bs)
 fixed_some n x bs = cond_both (leb n (length bs)) _ _ Some (λ _. some_record _ _) (λ _. some_refusal 9)
@@ -127,12 +127,12 @@ records_written (x ∷ xs) bs h e =
 head_is : (bs : List ℕ) (h : HeadCodes) → head_of bs ≡ Ok h → (marked bs ≡ true) × (codes_in bs ≡ h)
 head_is bs h =
     cond_both (ltb 32768 (length bs)) _ _ (λ r. r ≡ Ok h → (marked bs ≡ true) × (codes_in bs ≡ h))
-    (λ _ e. let z : ◌≡◌ {A = ℕ} 0 1 = cc in absurd (omega arith))
+    (λ _ e. cc)
     (λ _. cond_both (marked bs) _ _ (λ r. r ≡ Ok h → (marked bs ≡ true) × (codes_in bs ≡ h))
     (λ m. cond_both (in_bounds (codes_in bs)) _ _ (λ r. r ≡ Ok h → (marked bs ≡ true) × (codes_in bs ≡ h))
     (λ _ e. (m, (cc)))
-    (λ _ e. let z : ◌≡◌ {A = ℕ} 0 1 = cc in absurd (omega arith)))
-    (λ _ e. let z : ◌≡◌ {A = ℕ} 0 1 = cc in absurd (omega arith)))
+    (λ _ e. cc))
+    (λ _ e. cc))
 
 marked_codes : (bs : List ℕ) → Bytes bs → marked bs ≡ true → head_bytes (codes_in bs) ++ drop 13 bs ≡ bs
 marked_codes bs h t =

@@ -7,16 +7,16 @@ ghost use Rattle.writer.specs.RoundTrips.{InFields};
 ghost use Rattle.writer.specs.Writes.{pasted, head_end, record_end};
 
 use bedrock::refusal::Refusal;
-use sheet::head::HeadCodes;
+use sheet::head::{Head, HeadCodes};
 use sheet::records::Record;
 
 // Writes `bytes` over `out` from `at` on.
+#[tactic(auto, unfolding(crate::specs::Writes::pasted))]
 fn paste(out: &mut [u8], at: usize, bytes: &[u8])
     requires { at + length bytes.now ≤ length out.old }
     ensures { out.new ≡ pasted out.old at bytes.now }
 {
-    let end = at + bytes.len();
-    out[at..end].copy_from_slice(bytes);
+    out[at..at + bytes.len()].copy_from_slice(bytes);
 }
 
 fn record_size(rec: &Record<'_>) -> usize
@@ -47,32 +47,28 @@ fn is_proper(rec: &Record<'_>) -> bool
 pub(crate) fn head_end(room: usize, codes: HeadCodes) -> Result<usize, Refusal>
     ensures { outcome (λ end. end) result ≡ head_end room codes }
 {
-    match codes.judge() {
-        Err(why) => Err(why),
-        Ok(_) => {
-            if room < 13 {
-                return Err(Refusal::BufferTooShort);
-            }
-            Ok(13)
-        }
+    Head::try_from(codes)?;
+    if room < 13 {
+        return Err(Refusal::BufferTooShort);
     }
+    Ok(13)
 }
 
 // Where a record that begins at `at` ends in a buffer of `room` bytes.
 pub(crate) fn record_end(at: usize, room: usize, rec: &Record<'_>) -> Result<usize, Refusal>
     ensures { outcome (λ end. end) result ≡ record_end at room (item rec.now) }
 {
-    let size = record_size(rec);
-    if at > 32768 || size > 32768 - at {
-        return Err(Refusal::SheetTooLong);
-    }
+    let end = at
+        .checked_add(record_size(rec))
+        .filter(|end| *end <= 32768)
+        .ok_or(Refusal::SheetTooLong)?;
     if !is_proper(rec) {
         return Err(Refusal::OutOfBounds);
     }
-    if at + size > room {
+    if end > room {
         return Err(Refusal::BufferTooShort);
     }
-    Ok(at + size)
+    Ok(end)
 }
 
 // The mark, version 1 and the codes, at the front of `out`.
@@ -106,10 +102,10 @@ pub(crate) fn write_record(out: &mut [u8], at: usize, rec: &Record<'_>)
     ensures bytes { out.new ≡ pasted out.old at (encode (item rec.now)) }
     ensures fields { InFields (item rec.now) }
 {
-    match rec {
+    match *rec {
         Record::Load { cache, block, word } => {
             let [lo, hi] = block.to_le_bytes();
-            paste(out, at, &[b'L', *cache, lo, hi, *word]);
+            paste(out, at, &[b'L', cache, lo, hi, word]);
         }
         Record::Store {
             cache,
@@ -118,14 +114,14 @@ pub(crate) fn write_record(out: &mut [u8], at: usize, rec: &Record<'_>)
             value,
         } => {
             let [lo, hi] = block.to_le_bytes();
-            paste(out, at, &[b'S', *cache, lo, hi, *word]);
+            paste(out, at, &[b'S', cache, lo, hi, word]);
             paste(out, at + 5, &value.to_le_bytes());
         }
         Record::Deliver { channel, pick } => {
-            paste(out, at, &[b'D', *channel, *pick]);
+            paste(out, at, &[b'D', channel, pick]);
         }
         Record::MemoryTurn { pick } => {
-            paste(out, at, &[b'M', *pick]);
+            paste(out, at, &[b'M', pick]);
         }
         Record::Content { block, bytes } => {
             let [lo, hi] = block.to_le_bytes();

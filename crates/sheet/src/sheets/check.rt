@@ -1,27 +1,11 @@
-ghost use Rattle.std.specs.Prelude.{◌≡◌, ◌≤◌, length, Ok, MatchResult};
+ghost use Rattle.std.specs.Prelude.{◌≡◌, Ok, MatchResult};
 ghost use Rattle.bedrock.specs.Refusals.{outcome};
 ghost use Rattle.sheet.specs.Checks.{verdict};
-ghost use Rattle.sheet.specs.Heads.{head_codes, head_of, codes_in};
+ghost use Rattle.sheet.specs.Heads.{head_codes, head_of};
 
 use crate::head::{Head, HeadCodes};
 use crate::sheets::{CheckedSheet, UncheckedSheet};
 use bedrock::refusal::Refusal;
-
-// The codes that stand in the 13 bytes of a head, after mark and version.
-fn codes_in(bytes: &[u8]) -> HeadCodes
-    requires { 13 ≤ length bytes.now }
-    ensures { result ≡ codes_in bytes.now }
-{
-    HeadCodes {
-        protocol: bytes[5],
-        channels: bytes[6],
-        memory: bytes[7],
-        caches: bytes[8],
-        sets: bytes[9],
-        ways: bytes[10],
-        blocks: u16::from_le_bytes([bytes[11], bytes[12]]),
-    }
-}
 
 // The head that the bytes begin with: 5 for the length, then 6 for mark and version, then 7 for the codes.
 fn read_head(bytes: &[u8]) -> Result<Head, Refusal>
@@ -30,10 +14,34 @@ fn read_head(bytes: &[u8]) -> Result<Head, Refusal>
     if bytes.len() > 32768 {
         return Err(Refusal::SheetTooLong);
     }
-    let [b'M', b'O', b'S', 1, 0, _, _, _, _, _, _, _, _, ..] = bytes else {
+    let [
+        b'M',
+        b'O',
+        b'S',
+        1,
+        0,
+        protocol,
+        channels,
+        memory,
+        caches,
+        sets,
+        ways,
+        lo,
+        hi,
+        ..
+    ] = bytes
+    else {
         return Err(Refusal::BadHead);
     };
-    codes_in(bytes).judge()
+    Head::try_from(HeadCodes {
+        protocol: *protocol,
+        channels: *channels,
+        memory: *memory,
+        caches: *caches,
+        sets: *sets,
+        ways: *ways,
+        blocks: u16::from_le_bytes([*lo, *hi]),
+    })
 }
 
 impl UncheckedSheet {

@@ -15,17 +15,17 @@ use sheet::records::Record;
 
 impl OpenSheet {
     // A sheet with this head and no records yet. A refusal hands the buffer back as it was.
-    pub fn start(buffer: Vec<u8>, codes: HeadCodes) -> Result<OpenSheet, (Vec<u8>, Refusal)>
+    pub fn start(mut buffer: Vec<u8>, codes: HeadCodes) -> Result<OpenSheet, (Vec<u8>, Refusal)>
         ensures answers { started result ≡ start_on buffer.items codes }
         ensures gives { MatchResult result (λ s. Holds (open_page s) codes []) (λ p. p.0 ≡ buffer) }
     {
+        // No `?` here, since a refusal hands the buffer back.
         match head_end(buffer.len(), codes) {
-            Err(why) => Err((buffer, why)),
             Ok(end) => {
-                let mut buffer = buffer;
                 write_head(buffer.as_mut_slice(), codes);
                 Ok(OpenSheet { buffer, end })
             }
+            Err(why) => Err((buffer, why)),
         }
     }
 
@@ -36,14 +36,10 @@ impl OpenSheet {
         ensures holds { (h : HeadCodes) (xs : List Item) → is_ok result ≡ true → Holds (open_page self.old) h xs → Holds (open_page self.new) h (xs ++ item rec.now ∷ []) }
     {
         let at = self.end;
-        match record_end(at, self.buffer.len(), rec) {
-            Err(why) => Err(why),
-            Ok(end) => {
-                write_record(self.buffer.as_mut_slice(), at, rec);
-                self.end = end;
-                Ok(())
-            }
-        }
+        let end = record_end(at, self.buffer.len(), rec)?;
+        write_record(self.buffer.as_mut_slice(), at, rec);
+        self.end = end;
+        Ok(())
     }
 
     // The sheet is done: it takes no more records.

@@ -9,14 +9,13 @@ impl SealedSheet {
     pub fn bytes(&self) -> &[u8]
         ensures { result.now ≡ sheet_on (sealed_page self.now) }
     {
-        &self.buffer.as_slice()[0..self.end]
+        &self.buffer[..self.end]
     }
 
     // The whole buffer again, with the sheet at its front: one starts another sheet with it.
     pub fn into_buffer(self) -> Vec<u8>
         ensures { result ≡ self.buffer }
     {
-        let SealedSheet { buffer, end: _ } = self;
-        buffer
+        self.buffer
     }
 }
