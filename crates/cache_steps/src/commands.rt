@@ -63,10 +63,10 @@ fn fill<B: Board>(parts: &mut Parts<B>, at: Target, state: State, words: Words) 
 {
     let Target { cache, block, way } = at;
     let _ = parts.responses.add(Response::CoherenceAck { cache, block });
-    match parts.kept.get(None, cache) {
+    match parts.kept.get(cache) {
         None => Answer::MovedOn,
         Some(asked) => {
-            parts.kept.put(None, cache, None);
+            parts.kept.put(cache, None);
             let set = parts.home(block);
             finish(parts, set, cache, way, state, words, asked)
         }
@@ -80,8 +80,8 @@ fn write_back<B: Board>(parts: &mut Parts<B>, at: Target) -> Answer
 {
     let Target { cache, block, way } = at;
     let set = parts.home(block);
-    let held = parts.ways.get(Way::empty(), set, cache, way);
-    parts.ways.put(Way::empty(), set, cache, way, Way::empty());
+    let held = parts.ways.get(set, cache, way);
+    parts.ways.put(set, cache, way, Way::empty());
     let _ = parts.responses.add(given_back(cache, block, held));
     Answer::MovedOn
 }
@@ -93,7 +93,7 @@ fn invalidate<B: Board>(parts: &mut Parts<B>, at: Target) -> Answer
 {
     let Target { cache, block, way } = at;
     let set = parts.home(block);
-    parts.ways.put(Way::empty(), set, cache, way, Way::empty());
+    parts.ways.put(set, cache, way, Way::empty());
     let _ = parts
         .responses
         .add(Response::InvalidateAck { cache, block });
@@ -115,14 +115,8 @@ fn transfer<B: Board>(
 {
     let Target { cache, block, way } = at;
     let set = parts.home(block);
-    let held = parts.ways.get(Way::empty(), set, cache, way);
-    parts.ways.put(
-        Way::empty(),
-        set,
-        cache,
-        way,
-        Way::holding(owner_next, block, held.words),
-    );
+    let held = parts.ways.get(set, cache, way);
+    parts.ways.put(set, cache, way, Way::holding(owner_next, block, held.words));
     let _ = parts.commands.add(Command::SetTagData {
         cache: requestor,
         block,
@@ -180,7 +174,7 @@ fn obey<B: Board>(parts: &mut Parts<B>, command: Command) -> Answer
         } => fill(parts, Target { cache, block, way }, next, words),
         Command::SetStateWakeup { cache, block, way } => {
             let set = parts.home(block);
-            let held = parts.ways.get(Way::empty(), set, cache, way);
+            let held = parts.ways.get(set, cache, way);
             fill(parts, Target { cache, block, way }, State::M, held.words)
         }
     }

@@ -39,13 +39,9 @@ pub(crate) fn finish<B: Board>(
 {
     match asked {
         Order::Load { block, word } => {
-            parts.ways.put(
-                Way::empty(),
-                set,
-                cache,
-                way,
-                Way::holding(state, block, words),
-            );
+            parts
+                .ways
+                .put(set, cache, way, Way::holding(state, block, words));
             Answer::Loaded {
                 cache,
                 value: words.get(word),
@@ -53,7 +49,6 @@ pub(crate) fn finish<B: Board>(
         }
         Order::Store { block, word, value } => {
             parts.ways.put(
-                Way::empty(),
                 set,
                 cache,
                 way,
@@ -70,7 +65,7 @@ fn holding_way<B: Board>(parts: &Parts<B>, cache: u8, block: u16) -> Option<u8>
 {
     let set = parts.home(block);
     (0..parts.directory.geometry.ways()).find(|way| {
-        let held = parts.ways.get(Way::empty(), set, cache, *way);
+        let held = parts.ways.get(set, cache, *way);
         held.state.held() && held.block == block
     })
 }
@@ -79,11 +74,7 @@ fn holding_way<B: Board>(parts: &Parts<B>, cache: u8, block: u16) -> Option<u8>
 fn empty_way<B: Board>(parts: &Parts<B>, cache: u8, set: u8) -> Option<u8>
     ensures { result ≡ empty_way (⟦<Parts<B> as Shown>⟧.machine parts.now) set cache }
 {
-    (0..parts.directory.geometry.ways()).find(|way| !parts
-        .ways
-        .get(Way::empty(), set, cache, *way)
-        .state
-        .held())
+    (0..parts.directory.geometry.ways()).find(|way| !parts.ways.get(set, cache, *way).state.held())
 }
 
 // The cache keeps the order and waits, and a request goes out that names the way.
@@ -91,7 +82,7 @@ fn ask_for<B: Board>(parts: &mut Parts<B>, cache: u8, asked: Order, way: u8) -> 
     requires { length (B.Requests.waiting parts.old.requests) < 128 }
     ensures { answered (Ok result) (⟦<Parts<B> as Shown>⟧.machine parts.new) ≡ ask_for (⟦<Parts<B> as Shown>⟧.machine parts.old) cache asked way }
 {
-    parts.kept.put(None, cache, Some(asked));
+    parts.kept.put(cache, Some(asked));
     let _ = parts.requests.add(Request {
         access: asked.access(),
         cache,
@@ -109,13 +100,8 @@ fn ask_for_new<B: Board>(parts: &mut Parts<B>, cache: u8, asked: Order, set: u8)
     match empty_way(parts, cache, set) {
         Some(way) => ask_for(parts, cache, asked, way),
         None => {
-            let turn = parts.turns.get(0, set, cache);
-            parts.turns.put(
-                0,
-                set,
-                cache,
-                next_turn(turn, parts.directory.geometry.ways()),
-            );
+            let turn = parts.turns.get(set, cache);
+            parts.turns.put(set, cache, next_turn(turn, parts.directory.geometry.ways()));
             ask_for(parts, cache, asked, turn)
         }
     }
@@ -155,7 +141,7 @@ fn order_at<B: Board>(
         None => miss(parts, cache, asked, None),
         Some(way) => {
             let set = parts.home(asked.block());
-            let held = parts.ways.get(Way::empty(), set, cache, way);
+            let held = parts.ways.get(set, cache, way);
             if asked.hits(held.state) {
                 return Ok(finish(parts, set, cache, way, held.state, held.words, asked));
             }
@@ -177,7 +163,7 @@ pub fn order<B: Board>(parts: &mut Parts<B>, cache: u8, asked: Order) -> Result<
     if asked.word() >= 2 {
         return Err(Refusal::NoSuchWord);
     }
-    match parts.kept.get(None, cache) {
+    match parts.kept.get(cache) {
         Some(_) => Err(Refusal::CacheWaits),
         None => {
             let at = holding_way(parts, cache, asked.block());

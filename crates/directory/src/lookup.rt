@@ -22,7 +22,7 @@ impl Directory {
     pub(crate) fn entry(&self, set: u8, cache: u8, way: u8) -> Entry
         ensures { result ≡ grid no_entry self.now.entries.cells set cache way }
     {
-        self.entries.get(Entry::empty(), set, cache, way)
+        self.entries.get(set, cache, way)
     }
 
     // The way in which it shows a cache with a block.

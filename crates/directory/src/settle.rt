@@ -27,8 +27,8 @@ fn after_write(shown: Entry, block: u16) -> Entry
 fn clear_way(entries: &mut ByWay<Entry>, set: u8, block: u16, cache: u8, way: u8)
     ensures { grid no_entry entries.new.cells ≡ put₃ 16 8 4 (grid no_entry entries.old.cells) set cache way (dismissed true block (grid no_entry entries.old.cells set cache way)) }
 {
-    let shown = entries.get(Entry::empty(), set, cache, way);
-    entries.put(Entry::empty(), set, cache, way, after_write(shown, block));
+    let shown = entries.get(set, cache, way);
+    entries.put(set, cache, way, after_write(shown, block));
 }
 
 // The ways of a cache. The table has room for the largest geometry: 4 ways of 8 caches.
@@ -73,7 +73,7 @@ fn hand_over(entries: &mut ByWay<Entry>, set: u8, block: u16, source: Source)
             next,
             ..
         } => {
-            entries.put(Entry::empty(), set, cache, way, Entry::holding(next, block));
+            entries.put(set, cache, way, Entry::holding(next, block));
         }
     }
 }
@@ -88,7 +88,6 @@ impl Directory {
         dismiss_sharers(&mut self.entries, set, job.block, job.access);
         hand_over(&mut self.entries, set, job.block, job.source);
         let next = Entry::holding(job.next, job.block);
-        self.entries
-            .put(Entry::empty(), set, job.requestor, job.way, next);
+        self.entries.put(set, job.requestor, job.way, next);
     }
 }

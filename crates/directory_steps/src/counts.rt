@@ -11,23 +11,23 @@ use wires::channel::Channel;
 pub(crate) fn count_up<B: Board>(parts: &mut Parts<B>, set: u8)
     ensures { ⟦<Parts<B> as Shown>⟧.machine parts.new ≡ with_count (⟦<Parts<B> as Shown>⟧.machine parts.old) set (one_more ((⟦<Parts<B> as Shown>⟧.machine parts.old).count set)) }
 {
-    let count = parts.counts.get(0, set);
-    parts.counts.put(0, set, count.saturating_add(1));
+    let count = parts.counts.get(set);
+    parts.counts.put(set, count.saturating_add(1));
 }
 
 // One answer fewer is awaited.
 pub(crate) fn count_down<B: Board>(parts: &mut Parts<B>, set: u8)
     ensures { ⟦<Parts<B> as Shown>⟧.machine parts.new ≡ with_count (⟦<Parts<B> as Shown>⟧.machine parts.old) set ((⟦<Parts<B> as Shown>⟧.machine parts.old).count set - 1) }
 {
-    let count = parts.counts.get(0, set);
-    parts.counts.put(0, set, count.saturating_sub(1));
+    let count = parts.counts.get(set);
+    parts.counts.put(set, count.saturating_sub(1));
 }
 
 // A set whose count is 0 has no transaction any more.
 pub(crate) fn close<B: Board>(parts: &mut Parts<B>, set: u8)
     ensures { ⟦<Parts<B> as Shown>⟧.machine parts.new ≡ close_step (⟦<Parts<B> as Shown>⟧.machine parts.old) set }
 {
-    if parts.counts.get(0, set) == 0 {
-        parts.serving.put(None, set, None);
+    if parts.counts.get(set) == 0 {
+        parts.serving.put(set, None);
     }
 }

@@ -31,10 +31,8 @@ fn record_job<B: Board>(parts: &mut Parts<B>, job: Job, left: u8)
     let set = parts.home(job.block);
     let round = Round::One { left };
     parts.directory.settle(job);
-    parts
-        .serving
-        .put(None, set, Some(Transaction { job, round }));
-    parts.counts.put(0, set, 1 + left as u16);
+    parts.serving.put(set, Some(Transaction { job, round }));
+    parts.counts.put(set, 1 + left as u16);
 }
 
 // Whether what round two sends has room.
@@ -94,7 +92,7 @@ pub fn deliver_request<B: Board>(parts: &mut Parts<B>, pick: u8) -> Result<Answe
 {
     let request = parts.requests.look(pick).ok_or(Refusal::ChannelEmpty)?;
     let set = parts.home(request.block);
-    if parts.counts.get(0, set) != 0 {
+    if parts.counts.get(set) != 0 {
         return Err(Refusal::SetBusy);
     }
     let job = parts.directory.job_for(&parts.protocol, request);

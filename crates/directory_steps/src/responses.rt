@@ -79,9 +79,7 @@ fn one_fewer<B: Board>(parts: &mut Parts<B>, set: u8, transaction: Transaction, 
     }
     let job = transaction.job;
     let round = Round::One { left: left - 1 };
-    parts
-        .serving
-        .put(None, set, Some(Transaction { job, round }));
+    parts.serving.put(set, Some(Transaction { job, round }));
 }
 
 // What an arriving answer does to the set's transaction depends on its round. A Writeback goes on before anything that round two
@@ -155,7 +153,7 @@ pub fn deliver_response<B: Board>(parts: &mut Parts<B>, pick: u8) -> Result<Answ
 {
     let response = parts.responses.look(pick).ok_or(Refusal::ChannelEmpty)?;
     let set = parts.home(response.block());
-    let serving = parts.serving.get(None, set);
+    let serving = parts.serving.get(set);
     if !has_room_to_start(parts, response, starting(serving)) {
         return Err(Refusal::NoRoom);
     }

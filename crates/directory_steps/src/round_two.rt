@@ -60,11 +60,11 @@ fn fetch<B: Board>(parts: &mut Parts<B>, job: Job)
                 requestor_next: job.next,
                 writeback,
             });
-            let count = parts.counts.get(0, set);
+            let count = parts.counts.get(set);
             if writeback {
-                parts.counts.put(0, set, count.saturating_add(1));
+                parts.counts.put(set, count.saturating_add(1));
             } else {
-                parts.counts.put(0, set, count);
+                parts.counts.put(set, count);
             }
         }
     }
@@ -78,7 +78,5 @@ pub(crate) fn begin_two<B: Board>(parts: &mut Parts<B>, job: Job)
     fetch(parts, job);
     let set = parts.home(job.block);
     let round = Round::Two;
-    parts
-        .serving
-        .put(None, set, Some(Transaction { job, round }));
+    parts.serving.put(set, Some(Transaction { job, round }));
 }

@@ -5,14 +5,12 @@ ghost use Rattle.machine.specs.Machines.{new};
 use crate::state::Fabric;
 use bedrock::geometry::Geometry;
 use directory::state::Directory;
-use machine::holding::{Entry, Way};
 use parts::board::Board;
 use parts::shown::Shown;
 use parts::state::Parts;
-use tables::by_cache::ByCache;
-use tables::by_set::BySet;
 use tables::by_set_cache::BySetCache;
 use tables::by_way::ByWay;
+use tables::column::{ByCache, BySet};
 use wires::channel::Channel;
 
 impl<B: Board> Fabric<B> {
@@ -23,14 +21,14 @@ impl<B: Board> Fabric<B> {
         let parts = Parts {
             directory: Directory {
                 geometry,
-                entries: ByWay::new(Entry::empty()),
+                entries: ByWay::new(),
             },
             protocol,
-            ways: ByWay::new(Way::empty()),
-            kept: ByCache::new(None),
-            turns: BySetCache::new(0),
-            serving: BySet::new(None),
-            counts: BySet::new(0),
+            ways: ByWay::new(),
+            kept: ByCache::new(),
+            turns: BySetCache::new(),
+            serving: BySet::new(),
+            counts: BySet::new(),
             memory,
             requests: B::Requests::new(),
             commands: B::Commands::new(),

@@ -7,8 +7,8 @@ use crate::state::Fabric;
 use bedrock::refusal::Refusal;
 use machine::holding::{Entry, Way};
 use machine::order::Order;
-use messages::family::Family;
 use memory::Memory;
+use messages::family::Family;
 use parts::board::Board;
 use parts::shown::Shown;
 use wires::channel::Channel;
@@ -33,19 +33,14 @@ impl<B: Board> Fabric<B> {
         ensures { outcome (λ v. v) result ≡ way_asked (⟦<Fabric<B> as Shown>⟧.machine self.now) cache set way }
     {
         self.find_place(cache, set, way)?;
-        Ok(self.parts.ways.get(Way::empty(), set, cache, way))
+        Ok(self.parts.ways.get(set, cache, way))
     }
 
     pub fn entry(&self, cache: u8, set: u8, way: u8) -> Result<Entry, Refusal>
         ensures { outcome (λ v. v) result ≡ entry_asked (⟦<Fabric<B> as Shown>⟧.machine self.now) cache set way }
     {
         self.find_place(cache, set, way)?;
-        Ok(
-            self.parts
-                .directory
-                .entries
-                .get(Entry::empty(), set, cache, way),
-        )
+        Ok(self.parts.directory.entries.get(set, cache, way))
     }
 
     // The order that a cache waits with, if it does.
@@ -55,7 +50,7 @@ impl<B: Board> Fabric<B> {
         if cache >= self.parts.directory.geometry.caches() {
             return Err(Refusal::NoSuchCache);
         }
-        Ok(self.parts.kept.get(None, cache))
+        Ok(self.parts.kept.get(cache))
     }
 
     // The pending count of a set.
@@ -65,7 +60,7 @@ impl<B: Board> Fabric<B> {
         if set >= self.parts.directory.geometry.sets() {
             return Err(Refusal::NoSuchSetOrWay);
         }
-        Ok(self.parts.counts.get(0, set))
+        Ok(self.parts.counts.get(set))
     }
 
     // How many messages wait on a channel, 0 to 3.

@@ -3,10 +3,9 @@ use directory::state::Directory;
 use machine::holding::Way;
 use machine::order::Order;
 use machine::transaction::Transaction;
-use tables::by_cache::ByCache;
-use tables::by_set::BySet;
 use tables::by_set_cache::BySetCache;
 use tables::by_way::ByWay;
+use tables::column::{ByCache, BySet};
 
 // What a fabric is made of.
 #[derive(Drop)]

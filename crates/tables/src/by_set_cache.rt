@@ -1,10 +1,11 @@
 ghost use Rattle.std.specs.Prelude.{◌≡◌, ◌<◌, ◌+◌, ◌*◌, ◌&&◌, cond, length, Some, None, IfSome, nat_lt};
 
+use crate::blank::Blank;
+
 // Something for each cache in each set: room for 16 sets of 8 caches.
 #[derive(Drop)]
 pub struct BySetCache<T> {
     cells: [T; 128],
-    zero: T,
     ghost sized: { length cells ≡ 128 },
 }
 
@@ -20,34 +21,32 @@ fn place(set: u8, cache: u8) -> Option<usize>
     }
 }
 
-impl<T: Copy> BySetCache<T> {
+impl<T: Blank> BySetCache<T> {
     ghost use Rattle.machine.specs.Tables.{put₂};
-    ghost use Rattle.tables.specs.Grids.{everywhere₂};
-    ghost use Rattle.tables.specs.Shown.{shown₂};
+    ghost use Rattle.tables.specs.Grids.{rows, everywhere₂};
 
-    // A table that shows `zero` everywhere.
-    pub fn new(zero: T) -> BySetCache<T>
-        ensures { shown₂ result ≡ everywhere₂ zero }
+    // A table that shows a blank everywhere.
+    pub fn new() -> BySetCache<T>
+        ensures { rows T.blank result.cells ≡ everywhere₂ T.blank }
     {
         BySetCache {
-            cells: [zero; 128],
-            zero,
+            cells: [T::blank(); 128],
         }
     }
 
-    // What stands at a key, and the zero outside the table.
+    // What stands at a key, and a blank outside the table.
     pub fn get(&self, set: u8, cache: u8) -> T
-        ensures { result ≡ shown₂ self.now set cache }
+        ensures { result ≡ rows T.blank self.now.cells set cache }
     {
         match place(set, cache) {
             Some(at) => self.cells[at],
-            None => self.zero,
+            None => T::blank(),
         }
     }
 
     // Replaces what stands at a key. Outside the table nothing changes.
     pub fn put(&mut self, set: u8, cache: u8, value: T)
-        ensures { shown₂ self.new ≡ put₂ 16 8 (shown₂ self.old) set cache value }
+        ensures { rows T.blank self.new.cells ≡ put₂ 16 8 (rows T.blank self.old.cells) set cache value }
     {
         if let Some(at) = place(set, cache) {
             self.cells[at] = value;

@@ -1,11 +1,12 @@
 ghost use Rattle.std.specs.Prelude.{◌≡◌, ◌<◌, ◌+◌, ◌*◌, ◌&&◌, cond, length, Some, None, IfSome, nat_lt};
 
+use crate::blank::Blank;
+
 // By hand beside `BySetCache`: a table generic in its key would need a key type with a law of its places, which is longer than the two.
 // Something for each way of each cache in each set: room for 16 sets of 8 caches of 4 ways.
 #[derive(Drop)]
 pub struct ByWay<T> {
     cells: [T; 512],
-    zero: T,
     ghost sized: { length cells ≡ 512 },
 }
 
@@ -21,34 +22,32 @@ fn place(set: u8, cache: u8, way: u8) -> Option<usize>
     }
 }
 
-impl<T: Copy> ByWay<T> {
+impl<T: Blank> ByWay<T> {
     ghost use Rattle.machine.specs.Tables.{put₃};
-    ghost use Rattle.tables.specs.Grids.{everywhere₃};
-    ghost use Rattle.tables.specs.Shown.{shown₃};
+    ghost use Rattle.tables.specs.Grids.{grid, everywhere₃};
 
-    // A table that shows `zero` everywhere.
-    pub fn new(zero: T) -> ByWay<T>
-        ensures { shown₃ result ≡ everywhere₃ zero }
+    // A table that shows a blank everywhere.
+    pub fn new() -> ByWay<T>
+        ensures { grid T.blank result.cells ≡ everywhere₃ T.blank }
     {
         ByWay {
-            cells: [zero; 512],
-            zero,
+            cells: [T::blank(); 512],
         }
     }
 
-    // What stands at a key, and the zero outside the table.
+    // What stands at a key, and a blank outside the table.
     pub fn get(&self, set: u8, cache: u8, way: u8) -> T
-        ensures { result ≡ shown₃ self.now set cache way }
+        ensures { result ≡ grid T.blank self.now.cells set cache way }
     {
         match place(set, cache, way) {
             Some(at) => self.cells[at],
-            None => self.zero,
+            None => T::blank(),
         }
     }
 
     // Replaces what stands at a key. Outside the table nothing changes.
     pub fn put(&mut self, set: u8, cache: u8, way: u8, value: T)
-        ensures { shown₃ self.new ≡ put₃ 16 8 4 (shown₃ self.old) set cache way value }
+        ensures { grid T.blank self.new.cells ≡ put₃ 16 8 4 (grid T.blank self.old.cells) set cache way value }
     {
         if let Some(at) = place(set, cache, way) {
             self.cells[at] = value;

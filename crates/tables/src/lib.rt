@@ -1,7 +1,8 @@
-// The tables of a fabric: fixed room for the largest geometry, and accessors that take every key. A table is made with a zero, which
-// it shows outside its places too, and a write there changes nothing. So no step that uses one has a key to check.
+// The tables of a fabric: fixed room for the largest geometry, and accessors that take every key. Outside its places a table
+// shows a blank, and a write there changes nothing. So no step that uses one has a key to check.
 #![tactic(auto)]
 
+pub mod blank;
 pub mod by_set_cache;
 pub mod by_way;
 pub mod column;

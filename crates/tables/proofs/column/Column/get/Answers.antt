@@ -6,4 +6,4 @@ use Rattle.tables.proofs.column.Column.get.Goals as goal
 pub returns : goal.returns
 returns g c =
     let t = c.args.self.now in
-    c.unwrap_or.ensures ∙ ap (λ o. unwrap_or o t.zero) c.copied.ensures ∙ c.get.ensures.lookup.4 (omega arith) t.zero ∙ column_whole t.zero t.cells _ c.args.key t.sized
+    c.unwrap_or.ensures ∙ rw c.blank.ensures (ap (λ o. unwrap_or o g.T.Blank.blank) c.copied.ensures ∙ c.get.ensures.lookup.4 (omega arith) g.T.Blank.blank ∙ column_whole g.T.Blank.blank t.cells _ c.args.key t.sized)
