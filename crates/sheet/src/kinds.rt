@@ -38,16 +38,23 @@ impl From<ChannelKind> for u8 {
     }
 }
 
-// Its name.
+impl ChannelKind {
+    pub fn name(self) -> &'static str
+        ensures { result.now ≡ channel_name (channel_code self) }
+    {
+        match self {
+            ChannelKind::Unordered => "unordered",
+            ChannelKind::Paired => "paired",
+            ChannelKind::SingleFile => "single file",
+        }
+    }
+}
+
 impl fmt::Display for ChannelKind {
     ghost output = { λ kind. Some (channel_name (channel_code kind)) };
 
     fn fmt<W: fmt::Write>(&self, f: &mut fmt::Formatter<W>) -> fmt::Result {
-        f.write_str(match self {
-            ChannelKind::Unordered => "unordered",
-            ChannelKind::Paired => "paired",
-            ChannelKind::SingleFile => "single file",
-        })
+        f.write_str(ChannelKind::name(*self))
     }
 }
 
@@ -82,14 +89,21 @@ impl From<MemoryKind> for u8 {
     }
 }
 
-// Its name.
+impl MemoryKind {
+    pub fn name(self) -> &'static str
+        ensures { result.now ≡ memory_name (memory_code self) }
+    {
+        match self {
+            MemoryKind::Words => "words",
+            MemoryKind::Image => "image",
+        }
+    }
+}
+
 impl fmt::Display for MemoryKind {
     ghost output = { λ kind. Some (memory_name (memory_code kind)) };
 
     fn fmt<W: fmt::Write>(&self, f: &mut fmt::Formatter<W>) -> fmt::Result {
-        f.write_str(match self {
-            MemoryKind::Words => "words",
-            MemoryKind::Image => "image",
-        })
+        f.write_str(MemoryKind::name(*self))
     }
 }
