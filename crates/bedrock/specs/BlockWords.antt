@@ -1,5 +1,6 @@
 -- The two words of a block.
-use Rattle.std.specs.Prelude.{ℕ, cond, ◌==◌}
+use Rattle.std.specs.Prelude.{ℕ, cond, List, ◌++◌, take, drop, ◌==◌}
+use Rattle.std.specs.Int.{w64, from_le_bytes, to_le_bytes}
 use Rattle.bedrock.specs.declared.words.Words.{Words}
 
 abbrev pub words_of : ℕ → ℕ → Words
@@ -13,3 +14,10 @@ word_of ws k = cond (k == 0) ws.first ws.second
 
 abbrev pub with_word : Words → ℕ → ℕ → Words
 with_word ws k v = cond (k == 0) (words_of v ws.second) (words_of ws.first v)
+
+-- the words in sixteen bytes, low bytes first, and the bytes in which they are
+abbrev pub words_in : List ℕ → Words
+words_in bytes = words_of (from_le_bytes w64 (take 8 bytes)) (from_le_bytes w64 (drop 8 bytes))
+
+abbrev pub bytes_of : Words → List ℕ
+bytes_of ws = to_le_bytes w64 ws.first ++ to_le_bytes w64 ws.second
