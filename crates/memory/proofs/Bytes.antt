@@ -1,92 +1,104 @@
 -- Words in bytes.
-use Rattle.std.specs.Prelude.{◌≡◌, ℕ, ◌+◌, ◌*◌, ◌/◌, ◌%◌, ◌^◌, ◌<◌, ◌≤◌, ◌≢◌, List, [], ◌∷◌, length, replicate, slice_index, slice_index_or}
+use Rattle.std.specs.Prelude.{◌≡◌, ℕ, ◌+◌, ◌*◌, ◌^◌, ◌<◌, ◌≤◌, ◌≢◌, List, [], length, take, drop, replicate, slice_index, slice_index_or}
+use Rattle.std.specs.Int.{w64, from_le_bytes, to_le_bytes}
+use Rattle.std.specs.Simd.{first_chunks}
 use Rattle.std.proofs.Math.Path.{ap, fun_ext}
-use Rattle.std.proofs.Common.{◌∙◌, ⊎_elim, add-zero, arith, rules}
+use Rattle.std.specs.List.{HoldsAt}
+use Rattle.std.specs.Option.{MatchOption}
+use Rattle.std.proofs.Common.{zero, suc, Some, None, Option, Bor, refl, sym, ◌∙◌, ⊎_elim, add-zero, arith, rules}
 use borrow.Rule.Slice.PartMut.{put_mid}
-use Rattle.std.proofs.lemmas.List.{places}
+use Rattle.std.proofs.lemmas.List.{places, get_or-take, get_or-drop}
+use Rattle.std.proofs.lemmas.Nat.{from_le_bytes-to_le_bytes_8}
 use Rattle.std.proofs.lemmas.Bool.{cases_lt}
 use Rattle.bedrock.specs.declared.words.Words.{Words}
-use Rattle.bedrock.specs.BlockWords.{words_of}
+use Rattle.bedrock.specs.BlockWords.{words_of, words_in, bytes_of}
 use Rattle.memory.specs.Blocks.{word_at, start_of, image_blocks, empty_blocks, written}
-use Rattle.memory.specs.Beyond.{zero_block}
-use Rattle.memory.proofs.Writes.{all_same, written_inside}
+use Rattle.memory.specs.Beyond.{zero_block, image_beyond}
+use Rattle.memory.proofs.Writes.{all_same, default_is, written_inside}
 
--- the eight bytes of a value, low byte first
-abbrev digits : ℕ → List ℕ
-digits v = (v % 256) ∷ (v / 256 % 256) ∷ (v / 65536 % 256) ∷ (v / 16777216 % 256) ∷ (v / 4294967296 % 256) ∷ (v / 1099511627776 % 256) ∷ (v / 281474976710656 % 256) ∷ (v / 72057594037927936 % 256) ∷ []
-
-digits_sum : (v : ℕ) → v < 2 ^ 64 → v % 256 + v / 256 % 256 * 256 + v / 65536 % 256 * 65536 + v / 16777216 % 256 * 16777216 + v / 4294967296 % 256 * 4294967296 + v / 1099511627776 % 256 * 1099511627776 + v / 281474976710656 % 256 * 281474976710656 + v / 72057594037927936 % 256 * 72057594037927936 ≡ v
-digits_sum v h = omega arith
-
--- a word depends on its eight bytes alone
-pub word_same : (xs ys : List ℕ) (p : ℕ) → ((k : ℕ) → p ≤ k → k < p + 8 → slice_index xs k ≡ slice_index ys k) → word_at xs p ≡ word_at ys p
+-- a word is what its eight bytes say
+word_is : (xs ys : List ℕ) (p : ℕ) → ((j : ℕ) → j < 8 → slice_index xs (p + j) ≡ slice_index ys j) → word_at xs p ≡ from_le_bytes w64 ys
 unfolding word_at
-word_same xs ys p h =
-    let h0 = h p (omega arith) (omega arith) in
-    let h1 = h (p + 1) (omega arith) (omega arith) in
-    let h2 = h (p + 2) (omega arith) (omega arith) in
-    let h3 = h (p + 3) (omega arith) (omega arith) in
-    let h4 = h (p + 4) (omega arith) (omega arith) in
-    let h5 = h (p + 5) (omega arith) (omega arith) in
-    let h6 = h (p + 6) (omega arith) (omega arith) in
-    let h7 = h (p + 7) (omega arith) (omega arith) in
+word_is xs ys p h =
+    let h0 : slice_index xs p ≡ slice_index ys 0 = rw add-zero at (h 0 (omega arith)) in
+    let h1 = h 1 (omega arith) in
+    let h2 = h 2 (omega arith) in
+    let h3 = h 3 (omega arith) in
+    let h4 = h 4 (omega arith) in
+    let h5 = h 5 (omega arith) in
+    let h6 = h 6 (omega arith) in
+    let h7 = h 7 (omega arith) in
     omega arith
 
--- what a write of eight bytes leaves
-part_at : (xs ys : List ℕ) (p k j : ℕ) → k ≡ 8 → length ys ≡ 8 → p + 8 ≤ length xs → j < 8 → slice_index (put_mid p k xs ys) (p + j) ≡ slice_index ys j
-part_at xs ys p k j e l h i = search (rules, places)
-
-pub part_below : (xs ys : List ℕ) (p k i : ℕ) → p + 8 ≤ length xs → i < p → slice_index (put_mid p k xs ys) i ≡ slice_index xs i
-part_below xs ys p k i h l = search (rules, places)
-
-pub part_above : (xs ys : List ℕ) (p k i : ℕ) → k ≡ 8 → length ys ≡ 8 → p + 8 ≤ length xs → p + 8 ≤ i → slice_index (put_mid p k xs ys) i ≡ slice_index xs i
-part_above xs ys p k i e l h b = search (rules, places)
-
-pub part_length : (xs ys : List ℕ) (p k : ℕ) → k ≡ 8 → length ys ≡ 8 → p + 8 ≤ length xs → length (put_mid p k xs ys) ≡ length xs
-part_length xs ys p k e l h = search (rules, places)
-
-pub word_part : (xs ys : List ℕ) (p k v : ℕ) → k ≡ 8 → ys ≡ digits v → v < 2 ^ 64 → p + 8 ≤ length xs → word_at (put_mid p k xs ys) p ≡ v
-unfolding word_at
-word_part xs ys p k v e d f h =
-    let l : length ys ≡ 8 = ap length d in
-    let at : (j : ℕ) → j < 8 → slice_index (put_mid p k xs ys) (p + j) ≡ slice_index_or (digits v) j 0 = λ j i. part_at xs ys p k j e l h i ∙ ap (λ s. slice_index s j) d in
-    let a0 : slice_index_or (put_mid p k xs ys) p 0 ≡ v % 256 = rw add-zero at (at 0 (omega arith)) in
-    let a1 = at 1 (omega arith) in
-    let a2 = at 2 (omega arith) in
-    let a3 = at 3 (omega arith) in
-    let a4 = at 4 (omega arith) in
-    let a5 = at 5 (omega arith) in
-    let a6 = at 6 (omega arith) in
-    let a7 = at 7 (omega arith) in
-    let whole = digits_sum v f in
-    omega arith
+-- a block is what its sixteen bytes say
+block_is : (xs ys : List ℕ) (b : ℕ) → ((p j : ℕ) → j < 16 → p ≡ 16 * b + j → slice_index xs p ≡ slice_index ys j) → image_blocks xs b ≡ words_in ys
+unfolding image_blocks
+block_is xs ys b h =
+    let one = word_is xs (take 8 ys) (start_of b 0) (λ j l. h _ j (omega arith) (omega arith) ∙ sym (get_or-take 8 ys j 0 l)) in
+    let two = word_is xs (drop 8 ys) (start_of b 1) (λ j l. h _ (8 + j) (omega arith) (omega arith) ∙ sym (get_or-drop 8 ys j 0)) in
+    ap (λ w. words_of w (word_at xs (start_of b 1))) one ∙ ap (λ w. words_of (from_le_bytes w64 (take 8 ys)) w) two
 
 -- a block depends on its sixteen bytes alone
-block_same : (xs ys : List ℕ) (b : ℕ) → ((k : ℕ) → 16 * b ≤ k → k < 16 * b + 16 → slice_index xs k ≡ slice_index ys k) → image_blocks xs b ≡ image_blocks ys b
-unfolding image_blocks
-block_same xs ys b h =
-    let one = word_same xs ys (start_of b 0) (λ k l m. h k (omega arith) (omega arith)) in
-    let two = word_same xs ys (start_of b 1) (λ k l m. h k (omega arith) (omega arith)) in
-    ap (λ w. words_of w (word_at xs (start_of b 1))) one ∙ ap (λ w. words_of (word_at ys (start_of b 0)) w) two
+block_same : (xs zs : List ℕ) (b : ℕ) → ((k : ℕ) → 16 * b ≤ k → k < 16 * b + 16 → slice_index zs k ≡ slice_index xs k) → image_blocks zs b ≡ image_blocks xs b
+block_same xs zs b h =
+    let ys = take 16 (drop (16 * b) xs) in
+    let at : (p j : ℕ) → j < 16 → p ≡ 16 * b + j → slice_index xs p ≡ slice_index ys j =
+    λ p j l e. rw e (sym (get_or-take 16 (drop (16 * b) xs) j 0 l ∙ get_or-drop (16 * b) xs j 0)) in
+    block_is zs ys b (λ p j l e. h p (omega arith) (omega arith) ∙ at p j l e) ∙ sym (block_is xs ys b at)
+
+-- the words of two words' bytes
+words_back : (words : Words) → words.first < 2 ^ 64 → words.second < 2 ^ 64 → words_in (bytes_of words) ≡ words
+words_back words f s =
+    ap (λ w. words_of w (from_le_bytes w64 (to_le_bytes w64 words.second))) (from_le_bytes-to_le_bytes_8 words.first f)
+    ∙ ap (λ w. words_of words.first w) (from_le_bytes-to_le_bytes_8 words.second s)
+
+-- the bytes of a chunk
+chunk_byte : (n k i : ℕ) (xs d : List ℕ) (p j : ℕ) → i < k → j < n → p ≡ i * n + j → slice_index xs p ≡ slice_index (slice_index_or (first_chunks n k xs) i d) j
+chunk_byte n zero i xs d p j h l e = absurd (omega arith)
+chunk_byte n (suc k) zero xs d p j h l e = let q : p ≡ j = omega arith in rw q (sym (get_or-take n xs j 0 l))
+chunk_byte n (suc k) (suc i) xs d p j h l e =
+    let q : p ≡ n + (i * n + j) = omega arith in
+    rw q (sym (get_or-drop n xs (i * n + j) 0) ∙ chunk_byte n k i (drop n xs) d (i * n + j) j (omega arith) l refl)
+
+-- a read: by the chunk of a block, and past the last with zeros
+pub read_is : (xs : List ℕ) (cs : List (List ℕ)) (b : ℕ) (o : Option (Bor (List ℕ))) (z r : Words) → length xs ≡ 16384 → cs ≡ first_chunks 16 1024 xs → length cs ≡ 1024
+    → MatchOption o (length cs ≤ b) (λ x. (b < length cs) × HoldsAt (λ y. x.now ≡ y) cs b) → (z.first ≡ 0) × (z.second ≡ 0) → MatchOption o (r ≡ z) (λ x. r ≡ words_in x.now) → r ≡ image_blocks xs b
+read_is xs cs b None z r sized chunks count found none read = read ∙ default_is z none ∙ sym (image_beyond xs sized b (omega arith))
+read_is xs cs b (Some x) z r sized chunks count found none read =
+    let same : x.now ≡ slice_index_or (first_chunks 16 1024 xs) b [] = found.1 [] ∙ ap (λ l. slice_index_or l b []) chunks in
+    read ∙ ap words_in same ∙ sym (block_is xs _ b (λ p j l e. chunk_byte 16 1024 b xs [] p j (omega arith) l (omega arith)))
+
+-- what a write of sixteen bytes leaves
+part_at : (xs ys : List ℕ) (p k j : ℕ) → k ≡ 16 → length ys ≡ 16 → p + 16 ≤ length xs → j < 16 → slice_index (put_mid p k xs ys) (p + j) ≡ slice_index ys j
+part_at xs ys p k j e l h i = search (rules, places)
+
+part_below : (xs ys : List ℕ) (p k i : ℕ) → p + 16 ≤ length xs → i < p → slice_index (put_mid p k xs ys) i ≡ slice_index xs i
+part_below xs ys p k i h l = search (rules, places)
+
+part_above : (xs ys : List ℕ) (p k i : ℕ) → k ≡ 16 → length ys ≡ 16 → p + 16 ≤ length xs → p + 16 ≤ i → slice_index (put_mid p k xs ys) i ≡ slice_index xs i
+part_above xs ys p k i e l h b = search (rules, places)
 
 pub image_empty : (n : ℕ) → image_blocks (replicate n 0) ≡ empty_blocks
 unfolding empty_blocks
 image_empty n = fun_ext (λ b. zero_block (replicate n 0) b (λ k l m. all_same {X = ℕ} n k 0))
 
--- a write of one block
-module _ (xs ys : List ℕ) (b : ℕ) (words : Words)
-    (one : word_at ys (start_of b 0) ≡ words.first) (two : word_at ys (start_of b 1) ≡ words.second)
-    (below : (k : ℕ) → k < 16 * b → slice_index ys k ≡ slice_index xs k) (above : (k : ℕ) → 16 * b + 16 ≤ k → slice_index ys k ≡ slice_index xs k) where
-  here : image_blocks ys b ≡ words
-  unfolding image_blocks
-  here = ap (λ w. words_of w (word_at ys (start_of b 1))) one ∙ ap (λ w. words_of words.first w) two
+-- a write of the bytes of two words over those of one block
+module _ (xs ys : List ℕ) (p k b : ℕ) (words : Words) (at : p ≡ 16 * b) (part : k ≡ 16) (bytes : ys ≡ bytes_of words)
+    (first : words.first < 2 ^ 64) (second : words.second < 2 ^ 64) (sized : length xs ≡ 16384) (inside : b < 1024) where
+  eight : length ys ≡ 16
+  eight = ap length bytes
 
-  other : (k : ℕ) → k ≢ b → image_blocks ys k ≡ image_blocks xs k
-  other k ne =
+  here : image_blocks (put_mid p k xs ys) b ≡ words
+  here =
+      block_is (put_mid p k xs ys) ys b (λ q j l e. let f : q ≡ p + j = omega arith in rw f (part_at xs ys p k j part eight (omega arith) l))
+      ∙ ap words_in bytes ∙ words_back words first second
+
+  other : (c : ℕ) → c ≢ b → image_blocks (put_mid p k xs ys) c ≡ image_blocks xs c
+  other c ne =
       ⊎_elim
-      (λ (l : k < b). block_same ys xs k (λ i m n. below i (omega arith)))
-      (λ l. block_same ys xs k (λ i m n. above i (omega arith)))
-      (cases_lt k b)
+      (λ (l : c < b). block_same xs _ c (λ i m n. part_below xs ys p k i (omega arith) (omega arith)))
+      (λ l. block_same xs _ c (λ i m n. part_above xs ys p k i part eight (omega arith) (omega arith)))
+      (cases_lt c b)
 
-  pub image_write : b < 1024 → image_blocks ys ≡ written (image_blocks xs) b words
-  image_write lt = written_inside (image_blocks xs) (image_blocks ys) b words here other lt
+  pub image_write : image_blocks (put_mid p k xs ys) ≡ written (image_blocks xs) b words
+  image_write = written_inside (image_blocks xs) (image_blocks (put_mid p k xs ys)) b words here other inside

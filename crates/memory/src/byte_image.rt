@@ -1,8 +1,8 @@
-ghost use Rattle.std.specs.Prelude.{◌≡◌, ℕ, ◌+◌, ◌<◌, ◌≤◌, length, slice_index};
-ghost use Rattle.memory.specs.Blocks.{word_at, start_of, image_blocks};
+ghost use Rattle.std.specs.Prelude.{◌≡◌, length};
+ghost use Rattle.memory.specs.Blocks.{image_blocks};
 ghost use Rattle.memory.specs.Beyond.{image_beyond};
 
-use crate::{Memory, ZEROS};
+use crate::Memory;
 use bedrock::words::Words;
 
 // A memory as an image of 16,384 bytes. Each word takes eight bytes, low byte first.
@@ -10,42 +10,6 @@ use bedrock::words::Words;
 pub struct ByteImage {
     bytes: [u8; 16384],
     ghost sized: { length bytes ≡ 16384 },
-}
-
-// The byte at which a word of a block starts.
-fn start(block: u16, word: u8) -> usize
-    ensures { result ≡ start_of block word }
-{
-    16 * block as usize + 8 * word as usize
-}
-
-impl ByteImage {
-    // The word that starts at a byte.
-    fn word(&self, at: usize) -> u64
-        requires { at + 8 ≤ 16384 }
-        ensures { result ≡ word_at self.now.bytes at }
-    {
-        u64::from_le_bytes([
-            self.bytes[at],
-            self.bytes[at + 1],
-            self.bytes[at + 2],
-            self.bytes[at + 3],
-            self.bytes[at + 4],
-            self.bytes[at + 5],
-            self.bytes[at + 6],
-            self.bytes[at + 7],
-        ])
-    }
-
-    // Writes a word from a byte on; the bytes before and after it stay.
-    fn put(&mut self, at: usize, value: u64)
-        requires { at + 8 ≤ 16384 }
-        ensures here { word_at self.new.bytes at ≡ value }
-        ensures below { (k : ℕ) → k < at → slice_index self.new.bytes k ≡ slice_index self.old.bytes k }
-        ensures above { (k : ℕ) → at + 8 ≤ k → slice_index self.new.bytes k ≡ slice_index self.old.bytes k }
-    {
-        self.bytes[at..at + 8].copy_from_slice(&value.to_le_bytes());
-    }
 }
 
 impl Memory for ByteImage {
@@ -58,19 +22,17 @@ impl Memory for ByteImage {
     }
 
     fn read(&self, block: u16) -> Words {
-        if block < 1024 {
-            return Words {
-                first: self.word(start(block, 0)),
-                second: self.word(start(block, 1)),
-            };
-        }
-        ZEROS
+        let (blocks, _) = self.bytes.as_chunks();
+        blocks
+            .get(block as usize)
+            .map_or(Words::default(), |bytes| Words::from_le_bytes(*bytes))
     }
 
     fn write(&mut self, block: u16, words: Words) {
+        // By hand: of an array after `get_mut` no element is known, so the proof does not close.
         if block < 1024 {
-            self.put(start(block, 0), words.first);
-            self.put(start(block, 1), words.second);
+            let at = 16 * block as usize;
+            self.bytes[at..at + 16].copy_from_slice(&words.to_le_bytes());
         }
     }
 }

@@ -13,12 +13,6 @@ pub mod byte_image;
 mod tests;
 pub mod word_table;
 
-// The words that a new memory has in every block, and that blocks past 1,023 show.
-pub(crate) const ZEROS: Words = Words {
-    first: 0,
-    second: 0,
-};
-
 // A memory holds two words for each of the blocks 0 to 1,023.
 pub trait Memory: Sized {
     // The words of each block.

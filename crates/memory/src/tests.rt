@@ -1,8 +1,13 @@
+use crate::Memory;
 use crate::byte_image::ByteImage;
 use crate::word_table::WordTable;
-use crate::{Memory, ZEROS};
 use bedrock::words::Words;
 use std::process::Abort;
+
+const ZEROS: Words = Words {
+    first: 0,
+    second: 0,
+};
 
 const SOME: Words = Words {
     first: 0x0102_0304_0506_0708,

@@ -2,7 +2,7 @@ ghost use Rattle.std.specs.Prelude.{◌≡◌, length};
 ghost use Rattle.memory.specs.Blocks.{table_blocks};
 ghost use Rattle.memory.specs.Beyond.{table_beyond};
 
-use crate::{Memory, ZEROS};
+use crate::Memory;
 use bedrock::words::Words;
 
 // A memory as a table of words.
@@ -19,18 +19,16 @@ impl Memory for WordTable {
 
     fn new() -> WordTable {
         WordTable {
-            rows: [ZEROS; 1024],
+            rows: [Words::default(); 1024],
         }
     }
 
     fn read(&self, block: u16) -> Words {
-        if block < 1024 {
-            return self.rows[block as usize];
-        }
-        ZEROS
+        self.rows.get(block as usize).copied().unwrap_or_default()
     }
 
     fn write(&mut self, block: u16, words: Words) {
+        // By hand: of an array after `get_mut` no element is known, so the proof does not close.
         if block < 1024 {
             self.rows[block as usize] = words;
         }

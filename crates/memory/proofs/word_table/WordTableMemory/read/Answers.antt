@@ -1,12 +1,8 @@
-use Rattle.std.proofs.Common.{rules}
-use Rattle.std.proofs.lemmas.List.{get_or_past}
-use Rattle.memory.specs.Blocks.{table_blocks}
+use Rattle.std.proofs.Common.{arith, ap, ◌∙◌}
+use Rattle.std.specs.Option.{unwrap_or}
+use Rattle.memory.proofs.Writes.{table_read}
 use Rattle.memory.proofs.word_table.WordTableMemory.read.Goals as goal
 
-pub returns-then-block-lt1024 : goal.returns-then-block-lt1024
-unfolding table_blocks
-returns-then-block-lt1024 c = search rules
-
 pub returns : goal.returns
-unfolding table_blocks
-returns c = search (rules, get_or_past)
+returns c =
+    table_read c.args.self.now.rows c.args.block c.copied.result _ (λ d. ap (λ o. unwrap_or o d) c.copied.ensures ∙ c.get.ensures.lookup.4 (omega arith) d) c.unwrap_or_default.ensures
