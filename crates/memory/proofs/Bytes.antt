@@ -53,7 +53,7 @@ words_back words f s =
     ∙ ap (λ w. words_of words.first w) (from_le_bytes-to_le_bytes_8 words.second s)
 
 -- the bytes of a chunk
-chunk_byte : (n k i : ℕ) (xs d : List ℕ) (p j : ℕ) → i < k → j < n → p ≡ i * n + j → slice_index xs p ≡ slice_index (slice_index_or (first_chunks n k xs) i d) j
+pub chunk_byte : (n k i : ℕ) (xs d : List ℕ) (p j : ℕ) → i < k → j < n → p ≡ i * n + j → slice_index xs p ≡ slice_index (slice_index_or (first_chunks n k xs) i d) j
 chunk_byte n zero i xs d p j h l e = absurd (omega arith)
 chunk_byte n (suc k) zero xs d p j h l e = let q : p ≡ j = omega arith in rw q (sym (get_or-take n xs j 0 l))
 chunk_byte n (suc k) (suc i) xs d p j h l e =
