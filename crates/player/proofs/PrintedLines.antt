@@ -37,12 +37,12 @@ pub record Printed (blocks : ℕ) (all out : List ℕ) (n : ℕ) (early : Bool) 
 
 module _ {blocks : ℕ} {all out : List ℕ} {n : ℕ} {early : Bool} {says : List Said} {bs : List ℕ} (so_far : Printed blocks all out n early says bs) where
   -- one record more has its line
-  pub printed_record : (next line zs : List ℕ) (later : Bool) (rest : List Said) (x : Item) → Ok (Some x) ≡ answer_at (front bs) → zs ≡ left_at (front bs) bs
-      → next ≡ out ++ line → line ≡ record_line blocks n early says x → later ≡ (early && not (is_call x)) → rest ≡ drop (call_count x) says → Printed blocks all next (n + 1) later rest zs
-  printed_record next line zs later rest x a g e f l r =
+  pub printed_record : (next line zs : List ℕ) (n' : ℕ) (later : Bool) (rest : List Said) (x : Item) → Ok (Some x) ≡ answer_at (front bs) → zs ≡ left_at (front bs) bs
+      → next ≡ out ++ line → line ≡ record_line blocks n early says x → later ≡ (early && not (is_call x)) → rest ≡ drop (call_count x) says → n' ≡ n + 1 → Printed blocks all next n' later rest zs
+  printed_record next line zs n' later rest x a g e f l r i =
       let mine = record_line blocks n early says x in
       record {
-        lines_left = rw (e, f, l, r) (append_assoc out mine (reading_lines blocks (n + 1) (early && not (is_call x)) (reading zs) (drop (call_count x) says))
+        lines_left = rw (e, f, l, r, i) (append_assoc out mine (reading_lines blocks (n + 1) (early && not (is_call x)) (reading zs) (drop (call_count x) says))
             ∙ ap (λ w. out ++ w) (sym (lines_after blocks n early x (reading zs) says))
             ∙ ap (λ w. out ++ reading_lines blocks n early w says) (sym (drew_record bs zs x a g).0)
             ∙ so_far.lines_left);

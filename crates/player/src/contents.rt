@@ -20,7 +20,8 @@ fn fill_blocks<M: Memory>(memory: &mut M, block: u16, bytes: &[u8])
 {
     let (chunks, _) = bytes.as_chunks::<16>();
     for (i, chunk) in chunks.iter().enumerate() {
-        memory.write(block + i as u16, Words::from_le_bytes(*chunk));
+        let words = Words::from_le_bytes(*chunk);
+        memory.write(block + i as u16, words);
     }
 }
 

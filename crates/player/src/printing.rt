@@ -66,22 +66,20 @@ pub(crate) fn record_lines(
     let mut out = Vec::new(heap);
     let mut early = true;
     let mut answers = answers.iter();
-    // By hand: no `for` over `1..` is proved to end.
-    let mut place = 1;
-    loop {
+    for place in 1.. {
         match reader.next_record() {
             Ok(Some(rec)) => {
                 let line = record_line(heap, blocks, place, early, &mut answers, &rec)?;
                 out.extend_from_slice(&line)?;
                 early &= call_in(&rec).is_none();
-                place += 1;
             }
-            Ok(None) => return Ok(out),
+            Ok(None) => break,
             Err(why) => {
                 let line = refusal_line(heap, place, why)?;
                 out.extend_from_slice(&line)?;
-                return Ok(out);
+                break;
             }
         }
     }
+    Ok(out)
 }

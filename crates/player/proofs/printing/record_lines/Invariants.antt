@@ -7,11 +7,8 @@ use Rattle.player.specs.Lines.{reading_lines}
 use Rattle.player.proofs.PrintedLines.{Printed}
 use Rattle.player.proofs.printing.record_lines.Given as goal
 
-abbrev pub invariant-loop-rec : goal.invariant-loop-rec
-invariant-loop-rec l =
-    (l.place + length (left l.reader) ≤ 32769)
+abbrev pub invariant-loop-place : goal.invariant-loop-place
+invariant-loop-place l =
+    (l.place-iterator.start + length (left l.reader) ≤ 32769)
     × Printed l.blocks (reading_lines l.blocks 1 true (reading (left l.initial.reader)) (map said l.fn.answers))
-    (vec_items l.out) l.place l.early (map said (iter_rest l.answers)) (left l.reader)
-
-abbrev pub decreases-loop-rec : goal.decreases-loop-rec
-decreases-loop-rec l = length (left l.reader)
+    (vec_items l.out) l.place-iterator.start l.early (map said (iter_rest l.answers)) (left l.reader)
