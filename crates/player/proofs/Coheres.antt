@@ -1,13 +1,9 @@
 -- Every sheet is played coherently: a run of calls with picks is one with the indices that the picks show.
-use Rattle.std.proofs.Common.{◌≡◌, ℕ, Bool, true, false, cond, ◌&&◌, ltb, List, [], ◌∷◌, length, Ok, Err, Result, refl, subst, arith}
-use Rattle.std.proofs.lemmas.Bool.{and_parts}
+use Rattle.std.proofs.Common.{◌≡◌, ℕ, Bool, true, false, cond, ltb, List, [], ◌∷◌, length, Ok, Err, Result, refl, subst, arith}
+use Rattle.std.proofs.lemmas.Bool.Decides.{nat_tests}
 use Rattle.bedrock.specs.Geometries.{bounded}
-use Rattle.protocols.specs.declared.state.State.{State}
-use Rattle.protocols.specs.declared.state.State.TheVariants.{I, S, E, M, O, F}
-use Rattle.protocols.specs.declared.row.Row.{Row}
 use Rattle.protocols.specs.declared.protocol_kind.ProtocolKind.{ProtocolKind}
-use Rattle.protocols.specs.declared.protocol_kind.ProtocolKind.TheVariants.{Mi, Msi, Mesi, Mesif, Mosi, Mosif, Moesi, Moesif}
-use Rattle.protocols.specs.Rows.{lawful}
+use Rattle.protocols.specs.Laws.{unowned_kept, handover_kept, exclusive_kept, dirty_kept}
 use Rattle.protocols.specs.Tables.{read_row}
 use Rattle.machine.specs.declared.fabric_call.FabricCall.{FabricCall}
 use Rattle.machine.specs.Machines.{Machine}
@@ -32,58 +28,21 @@ same_run : (k : Picks) (xs : List FabricCall) (m : Machine) (past : List Event) 
 same_run k [] m past = refl
 same_run k (x ∷ xs) m past = same_run k xs (step m (arriving k m x)).after (record { call = arriving k m x; says = (step m (arriving k m x)).says } ∷ past)
 
--- ---- the eight tables are lawful
-
-abbrev all_rows : (State → Row) → Bool
-all_rows row = lawful I (row I) && (lawful S (row S) && (lawful E (row E) && (lawful M (row M) && (lawful O (row O) && lawful F (row F)))))
-
-tested : (p : ProtocolKind) → all_rows (read_row p) ≡ true
-tested Mi = refl
-tested Msi = refl
-tested Mesi = refl
-tested Mesif = refl
-tested Mosi = refl
-tested Mosif = refl
-tested Moesi = refl
-tested Moesif = refl
-
--- a test of six parts, part by part
-six : (a b c d e f : Bool) → (a && (b && (c && (d && (e && f))))) ≡ true → (a ≡ true) × (b ≡ true) × (c ≡ true) × (d ≡ true) × (e ≡ true) × (f ≡ true)
-six a b c d e f h =
-    let p = and_parts a (b && (c && (d && (e && f)))) h in
-    let q = and_parts b (c && (d && (e && f))) p.1 in
-    let r = and_parts c (d && (e && f)) q.1 in
-    let s = and_parts d (e && f) r.1 in
-    let t = and_parts e f s.1 in
-    (p.0, q.0, r.0, s.0, t.0, t.1)
+-- ---- every protocol keeps the four laws
 
 rows_lawful : (p : ProtocolKind) → Lawful (read_row p)
-rows_lawful p = at
-  where
-    parts : (lawful I (read_row p I) ≡ true) × (lawful S (read_row p S) ≡ true) × (lawful E (read_row p E) ≡ true) × (lawful M (read_row p M) ≡ true) × (lawful O (read_row p O) ≡ true) × (lawful F (read_row p F) ≡ true)
-    parts = six (lawful I (read_row p I)) (lawful S (read_row p S)) (lawful E (read_row p E)) (lawful M (read_row p M)) (lawful O (read_row p O)) (lawful F (read_row p F)) (tested p)
-
-    at : (s : State) → lawful s (read_row p s) ≡ true
-    at I = parts.0
-    at S = parts.1
-    at E = parts.2
-    at M = parts.3
-    at O = parts.4
-    at F = parts.5
+rows_lawful p s = rw (unowned_kept p s, handover_kept p s, exclusive_kept p s, dirty_kept p s) refl
 
 -- ---- a good head has a geometry
 
 good_codes : (a b c : Bool) (g h : HeadCodes) → cond {A = Result HeadCodes ℕ} a (Err 5) (cond b (cond c (Ok g) (Err 7)) (Err 6)) ≡ Ok h → (c ≡ true) × (g ≡ h)
-good_codes true b c g h e = let z : ◌≡◌ {A = ℕ} 0 1 = cc in absurd (omega arith)
+good_codes true b c g h e = cc
 good_codes false true true g h e = (refl, cc)
-good_codes false true false g h e = let z : ◌≡◌ {A = ℕ} 0 1 = cc in absurd (omega arith)
-good_codes false false c g h e = let z : ◌≡◌ {A = ℕ} 0 1 = cc in absurd (omega arith)
+good_codes false true false g h e = cc
+good_codes false false c g h e = cc
 
 good_sizes : (h : HeadCodes) → in_bounds h ≡ true → bounded (sizes_in h) ≡ true
-good_sizes h i =
-    let p = and_parts (ltb h.protocol 8) (ltb h.channels 3 && (ltb h.memory 2 && bounded (sizes_in h))) i in
-    let q = and_parts (ltb h.channels 3) (ltb h.memory 2 && bounded (sizes_in h)) p.1 in
-    (and_parts (ltb h.memory 2) (bounded (sizes_in h)) q.1).1
+good_sizes h i = grind (arith, nat_tests)
 
 head_sizes : (bs : List ℕ) (h : HeadCodes) → head_of bs ≡ Ok h → bounded (sizes_in h) ≡ true
 head_sizes bs h e =

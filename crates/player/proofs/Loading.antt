@@ -60,7 +60,7 @@ loaded_none blocks m bs ys e = record {
   content_left = ap (λ l. content_after blocks l m (items_in (reading bs))) e;
 }
 
-module _ (blocks : ℕ) (calls : List FabricCall) (content : ℕ → Words) (ys : List FabricCall) (m : ℕ → Words) (bs : List ℕ) (so_far : Loaded blocks calls content ys m bs) where
+module _ {blocks : ℕ} {calls : List FabricCall} {content : ℕ → Words} {ys : List FabricCall} {m : ℕ → Words} {bs : List ℕ} (so_far : Loaded blocks calls content ys m bs) where
   -- one record more
   pub loaded_record : (ys' : List FabricCall) (m' : ℕ → Words) (zs : List ℕ) (x : Item) (early : Bool) (len : ℕ) → Ok (Some x) ≡ answer_at (front bs) → zs ≡ left_at (front bs) bs
       → ys' ≡ ys ++ call_of x → early ≡ eqb len 0 → len ≡ length ys → m' ≡ after_record blocks early m x → Loaded blocks calls content ys' m' zs

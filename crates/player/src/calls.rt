@@ -1,8 +1,9 @@
-ghost use Rattle.std.specs.Prelude.{◌≡◌, ◌++◌, IfOk, OnOk};
+ghost use Rattle.std.specs.Prelude.{◌≡◌, IfOk};
+ghost use Rattle.std.specs.Option.{option_to_list};
 ghost use Rattle.sheet.specs.Records.{item};
 ghost use Rattle.sheet.specs.Readings.{reading};
 ghost use Rattle.sheet.specs.Reads.{left};
-ghost use Rattle.player.specs.Calls.{call_count, call_of, calls_in, items_in};
+ghost use Rattle.player.specs.Calls.{call_of, calls_in, items_in};
 ghost use Rattle.player.specs.Contents.{starting_content};
 
 use crate::contents::take_record;
@@ -13,42 +14,28 @@ use sheet::reader::Reader;
 use sheet::records::Record;
 use std::alloc::{AllocError, Global};
 
-// How many calls of the fabric a record is: one or none.
-pub(crate) fn call_count(rec: &Record<'_>) -> usize
-    ensures { result ≡ call_count (item rec.now) }
+// The call of the fabric that a record is; a content and a note are none.
+pub(crate) fn call_in(rec: &Record<'_>) -> Option<FabricCall>
+    ensures { option_to_list result ≡ call_of (item rec.now) }
 {
-    match rec {
-        Record::Content { .. } => 0,
-        Record::Note { .. } => 0,
-        _ => 1,
-    }
-}
-
-// Adds the call that a record is; a content and a note are none.
-fn push_call(calls: &mut Vec<FabricCall>, rec: &Record<'_>) -> Result<(), AllocError>
-    ensures { OnOk result (calls.new.items ≡ calls.old.items ++ call_of (item rec.now)) }
-{
-    let call = match *rec {
-        Record::Load { cache, block, word } => FabricCall::Order {
+    match *rec {
+        Record::Load { cache, block, word } => Some(FabricCall::Order {
             cache,
             order: Order::Load { block, word },
-        },
+        }),
         Record::Store {
             cache,
             block,
             word,
             value,
-        } => FabricCall::Order {
+        } => Some(FabricCall::Order {
             cache,
             order: Order::Store { block, word, value },
-        },
-        Record::Deliver { channel, pick } => FabricCall::Deliver { channel, pick },
-        Record::MemoryTurn { pick } => FabricCall::MemoryTurn { pick },
-        Record::Content { .. } => return Ok(()),
-        Record::Note { .. } => return Ok(()),
-    };
-    calls.push(call)?;
-    Ok(())
+        }),
+        Record::Deliver { channel, pick } => Some(FabricCall::Deliver { channel, pick }),
+        Record::MemoryTurn { pick } => Some(FabricCall::MemoryTurn { pick }),
+        Record::Content { .. } | Record::Note { .. } => None,
+    }
 }
 
 // Reads all records that are left: the contents that come before every call go into the memory, and the calls are handed back.
@@ -61,20 +48,11 @@ pub(crate) fn load_records<M: Memory>(
     ensures { IfOk result (λ v. (v.items ≡ calls_in (items_in (reading (left reader.old)))) × (M.Memory.blocks memory.new ≡ starting_content blocks (M.Memory.blocks memory.old) (items_in (reading (left reader.old))))) }
 {
     let mut calls = Vec::new(heap);
-    loop {
-        match reader.next_record() {
-            Ok(next) => match next {
-                Some(rec) => {
-                    take_record(memory, blocks, calls.is_empty(), &rec);
-                    push_call(&mut calls, &rec)?;
-                }
-                None => {
-                    return Ok(calls);
-                }
-            },
-            Err(_) => {
-                return Ok(calls);
-            }
+    while let Ok(Some(rec)) = reader.next_record() {
+        take_record(memory, blocks, calls.is_empty(), &rec);
+        if let Some(call) = call_in(&rec) {
+            calls.push(call)?;
         }
     }
+    Ok(calls)
 }

@@ -16,25 +16,11 @@ fn answer_text(heap: Global, answer: Result<Answer, Refusal>) -> Result<String, 
         Ok(Answer::MovedOn) => String::from_str(heap, "ok"),
         Ok(Answer::Loaded { cache, value }) => format!(in heap; "load {cache} {value}"),
         Ok(Answer::Stored { cache, value }) => format!(in heap; "store {cache} {value}"),
-        Err(why) => {
-            let code = why.number();
-            format!(in heap; "no {code}")
-        }
+        Err(why) => format!(in heap; "no {}", why.number()),
     }
 }
 
-// A line: the number of a record, a space, and the text.
-fn text_line(heap: Global, place: usize, text: &[u8]) -> Result<Vec<u8>, AllocError>
-    ensures { IfOk result (λ v. v.items ≡ line_of place text.now) }
-{
-    let opening = format!(in heap; "{place} ")?;
-    let mut line = Vec::from_slice(heap, opening.as_bytes())?;
-    line.extend_from_slice(text)?;
-    line.push(b'\n')?;
-    Ok(line)
-}
-
-// The line of a call.
+// The line of a call: the number of its record, a space, and what it answered.
 pub(crate) fn answer_line(
     heap: Global,
     place: usize,
@@ -43,7 +29,8 @@ pub(crate) fn answer_line(
     ensures { IfOk result (λ v. v.items ≡ line_of place (say_text (said answer))) }
 {
     let text = answer_text(heap, answer)?;
-    text_line(heap, place, text.as_bytes())
+    let line = format!(in heap; "{place} {text}\n")?;
+    Ok(line.into_bytes())
 }
 
 // The line of a record that is refused, or, with number 0, of a head.
@@ -53,13 +40,14 @@ pub(crate) fn refusal_line(heap: Global, place: usize, why: Refusal) -> Result<V
     answer_line(heap, place, Err(why))
 }
 
-// The line of a note: its bytes as they are.
+// The line of a note: its bytes as they are, which may be no text.
 pub(crate) fn note_line(heap: Global, place: usize, text: &[u8]) -> Result<Vec<u8>, AllocError>
     ensures { IfOk result (λ v. v.items ≡ line_of place (note_text text.now)) }
 {
-    let mut shown = Vec::from_slice(heap, b"note ")?;
-    shown.extend_from_slice(text)?;
-    text_line(heap, place, shown.as_slice())
+    let mut line = format!(in heap; "{place} note ")?.into_bytes();
+    line.extend_from_slice(text)?;
+    line.push(b'\n')?;
+    Ok(line)
 }
 
 // Whether a content is taken; `early` says that no call came before it.

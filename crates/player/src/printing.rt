@@ -1,51 +1,55 @@
-ghost use Rattle.std.specs.Prelude.{◌≡◌, ◌≤◌, true, map, length, drop, IfOk, ◌==◌};
+ghost use Rattle.std.specs.Prelude.{◌≡◌, ◌≤◌, true, map, length, drop, IfOk};
+ghost use Rattle.std.specs.Slice.Iter.{iter_rest};
 ghost use Rattle.machine.specs.Outcomes.{said};
 ghost use Rattle.sheet.specs.Records.{item};
 ghost use Rattle.sheet.specs.Readings.{reading};
 ghost use Rattle.sheet.specs.Reads.{left};
+ghost use Rattle.player.specs.Calls.{call_count};
 ghost use Rattle.player.specs.Lines.{call_line, reading_lines, record_line};
 
-use crate::calls::call_count;
+use crate::calls::call_in;
 use crate::lines::{answer_line, content_answer, note_line, refusal_line};
 use bedrock::refusal::Refusal;
 use machine::answer::Answer;
 use sheet::reader::Reader;
 use sheet::records::Record;
 use std::alloc::{AllocError, Global};
+use std::slice::Iter;
 
-// The line of a call that comes after `called` others. There is an answer for every call; past them nothing is printed.
+// The line of a call, which has the next answer. There is an answer for every call; past them nothing is printed.
 fn call_line(
     heap: Global,
     place: usize,
-    called: usize,
-    answers: &[Result<Answer, Refusal>],
+    answers: &mut Iter<'_, Result<Answer, Refusal>>,
 ) -> Result<Vec<u8>, AllocError>
-    ensures { IfOk result (λ v. v.items ≡ call_line place (drop called (map said answers.now))) }
+    ensures line { IfOk result (λ v. v.items ≡ call_line place (map said (iter_rest answers.old))) }
+    ensures taken { iter_rest answers.new ≡ drop 1 (iter_rest answers.old) }
 {
-    if called < answers.len() {
-        return answer_line(heap, place, answers[called]);
+    match answers.next() {
+        Some(answer) => answer_line(heap, place, *answer),
+        None => Ok(Vec::new(heap)),
     }
-    Ok(Vec::new(heap))
 }
 
-// The line of a record that comes after `called` calls.
+// The line of a record; `early` says that no call came before it.
 fn record_line(
     heap: Global,
     blocks: u16,
     place: usize,
-    called: usize,
-    answers: &[Result<Answer, Refusal>],
+    early: bool,
+    answers: &mut Iter<'_, Result<Answer, Refusal>>,
     rec: &Record<'_>,
 ) -> Result<Vec<u8>, AllocError>
-    ensures { IfOk result (λ v. v.items ≡ record_line blocks place (called == 0) (drop called (map said answers.now)) (item rec.now)) }
+    ensures line { IfOk result (λ v. v.items ≡ record_line blocks place early (map said (iter_rest answers.old)) (item rec.now)) }
+    ensures taken { iter_rest answers.new ≡ drop (call_count (item rec.now)) (iter_rest answers.old) }
 {
     match rec {
         Record::Content { block, bytes } => {
-            let answer = content_answer(blocks, called == 0, *block, bytes);
+            let answer = content_answer(blocks, early, *block, bytes);
             answer_line(heap, place, answer)
         }
         Record::Note { text } => note_line(heap, place, text),
-        _ => call_line(heap, place, called, answers),
+        _ => call_line(heap, place, answers),
     }
 }
 
@@ -60,26 +64,22 @@ pub(crate) fn record_lines(
     ensures { IfOk result (λ v. v.items ≡ reading_lines blocks 1 true (reading (left reader.old)) (map said answers.now)) }
 {
     let mut out = Vec::new(heap);
-    let mut place = 1usize;
-    let mut called = 0usize;
-    loop {
+    let mut early = true;
+    let mut answers = answers.iter();
+    for place in 1.. {
         match reader.next_record() {
-            Ok(next) => match next {
-                Some(rec) => {
-                    let line = record_line(heap, blocks, place, called, answers, &rec)?;
-                    out.extend_from_slice(line.as_slice())?;
-                    called += call_count(&rec);
-                    place += 1;
-                }
-                None => {
-                    return Ok(out);
-                }
-            },
+            Ok(Some(rec)) => {
+                let line = record_line(heap, blocks, place, early, &mut answers, &rec)?;
+                out.extend_from_slice(&line)?;
+                early &= call_in(&rec).is_none();
+            }
+            Ok(None) => break,
             Err(why) => {
                 let line = refusal_line(heap, place, why)?;
-                out.extend_from_slice(line.as_slice())?;
-                return Ok(out);
+                out.extend_from_slice(&line)?;
+                break;
             }
         }
     }
+    Ok(out)
 }

@@ -6,8 +6,8 @@ use Rattle.player.specs.Contents.{starting_content}
 use Rattle.player.proofs.Loading.{Loaded}
 use Rattle.player.proofs.calls.load_records.Given as goal
 
-abbrev pub invariant-loop-next : goal.invariant-loop-next
-invariant-loop-next g l =
+abbrev pub invariant-loop-rec : goal.invariant-loop-rec
+invariant-loop-rec g l =
     Loaded l.blocks
     (calls_in (items_in (reading (left l.initial.reader))))
     (starting_content l.blocks (g.M.Memory.blocks l.initial.memory) (items_in (reading (left l.initial.reader))))
@@ -15,5 +15,5 @@ invariant-loop-next g l =
     (g.M.Memory.blocks l.memory)
     (left l.reader)
 
-abbrev pub decreases-loop-next : goal.decreases-loop-next
-decreases-loop-next g l = length (left l.reader)
+abbrev pub decreases-loop-rec : goal.decreases-loop-rec
+decreases-loop-rec g l = length (left l.reader)
