@@ -13,23 +13,21 @@ fn list_records(heap: Global, reader: &mut Reader<'_>, out: &mut String) -> Resu
     requires { length (left reader.old) ≤ 32768 }
     ensures { OnOk result (string_bytes out.new ≡ string_bytes out.old ++ reading_lines 1 (reading (left reader.old))) }
 {
-    // Counted by hand: after a `for` over `1..` one would have to say what follows its last number, which no sheet reaches.
-    let mut place = 1;
-    loop {
+    for place in 1.. {
         match reader.next_record() {
             Ok(Some(rec)) => {
                 let line = record_line(heap, place, &rec)?;
                 out.push_str(line.as_str())?;
-                place += 1;
             }
-            Ok(None) => return Ok(()),
+            Ok(None) => break,
             Err(why) => {
                 let line = refusal_line(heap, place, why)?;
                 out.push_str(line.as_str())?;
-                return Ok(());
+                break;
             }
         }
     }
+    Ok(())
 }
 
 // The lines of a sheet whose head is good.
