@@ -56,6 +56,8 @@ fn sends_on(command: Command) -> bool
     matches!(command, Command::Transfer { .. })
 }
 
+// That a channel has room is a `requires` of each step, and no invariant: it holds at that moment alone.
+
 // The requestor has the block's words in a state: the kept order is carried out, the wait ends, and Coherence Ack goes out.
 fn fill<B: Board>(parts: &mut Parts<B>, at: Target, state: State, words: Words) -> Answer
     requires { length (B.Responses.waiting parts.old.responses) < 128 }

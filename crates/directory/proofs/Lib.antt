@@ -1,5 +1,3 @@
-mod Tests
 pub mod Searches
 pub mod Frames
-mod Rounds
 mod Settling

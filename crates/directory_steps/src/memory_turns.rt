@@ -22,6 +22,8 @@ fn is_read(command: MemoryCommand) -> bool
     matches!(command, MemoryCommand::Read { .. })
 }
 
+// That a channel has room is a `requires` of each step, and no invariant: it holds at that moment alone.
+
 // A read sends the words to the requestor, a write changes the memory.
 fn carry_out<B: Board>(parts: &mut Parts<B>, command: MemoryCommand)
     requires { is_read command ≡ true → length (B.Commands.waiting parts.old.commands) < 128 }

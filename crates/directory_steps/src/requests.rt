@@ -14,6 +14,8 @@ use parts::shown::Shown;
 use parts::state::Parts;
 use wires::channel::Channel;
 
+// That a channel has room is a `requires` of each step, and no invariant: it holds at that moment alone.
+
 // Sends the commands of a batch, in their order.
 fn send_all<C: Channel<Command>>(channel: &mut C, batch: &Batch)
     requires { length (C.waiting channel.old) + length batch.now.items ≤ 128 }

@@ -19,6 +19,8 @@ pub(crate) fn from_memory(source: Source) -> bool
     matches!(source, Source::Memory)
 }
 
+// That a channel has room is a `requires` of each step, and no invariant: it holds at that moment alone.
+
 // What round two sends: a memory read, a Wakeup for an upgrade, or a Transfer to the owner. A memory read and a write back are
 // awaited too.
 fn fetch<B: Board>(parts: &mut Parts<B>, job: Job)

@@ -29,7 +29,8 @@ impl<B: Board> Fabric<B> {
         order(&mut self.parts, cache, asked)
     }
 
-    // The message that the pick shows on channel 0, 1 or 2 arrives.
+    // The message that the pick shows on channel 0, 1 or 2 arrives. The channel is a number and not a `Family`, since every number is taken, and
+    // those without such a channel are refused.
     pub fn deliver(&mut self, channel: u8, pick: u8) -> Result<Answer, Refusal>
         ensures { answered result (⟦<Fabric<B> as Shown>⟧.machine self.new) ≡ deliver_step (⟦<Fabric<B> as Shown>⟧.machine self.old) channel (index_on B.Requests.chosen B.Commands.chosen B.Responses.chosen self.old channel pick) }
     {

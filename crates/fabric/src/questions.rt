@@ -63,7 +63,7 @@ impl<B: Board> Fabric<B> {
         Ok(self.parts.counts.get(set))
     }
 
-    // How many messages wait on a channel, 0 to 3.
+    // How many messages wait on a channel, 0 to 3; any other number is taken, and refused.
     pub fn length(&self, channel: u8) -> Result<usize, Refusal>
         ensures { outcome (λ v. v) result ≡ length_asked (⟦<Fabric<B> as Shown>⟧.machine self.now) channel }
     {

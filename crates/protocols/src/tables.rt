@@ -57,6 +57,7 @@ const F_S_W: Row = Row {
     writeback: true,
 };
 
+// One constant table for each protocol, two of them alike: a table is read beside the protocol's published one.
 // The rows at I, S, E, M, O and F. At a state that a protocol never meets it has MOESIF's row.
 const MI: [Row; 6] = [I_M, I_S, F_S_W, I_M, O_S, F_S];
 

@@ -5,6 +5,9 @@ ghost use Rattle.sheet.specs.Kinds.{channel_code, channel_name, memory_code, mem
 use bedrock::refusal::Refusal;
 use std::fmt;
 
+// By hand for each kind, as for the protocols: no derive makes the standard conversions, and what one trait of ours could share is the last
+// arm alone.
+
 // How a channel picks among the messages that wait.
 #[derive(Clone, Copy, Debug, PartialEq, Eq)]
 pub enum ChannelKind {

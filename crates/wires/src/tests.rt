@@ -33,10 +33,7 @@ impl Routed for Note {
 
 // The tag of a note, or 255 where there is none.
 fn tag(shown: Option<Note>) -> u8 {
-    match shown {
-        Some(note) => note.tag,
-        None => 255,
-    }
+    shown.map_or(255, |note| note.tag)
 }
 
 // Adds four notes, tagged 0 to 3, from cache 5 and cache 6 in turn.

@@ -56,6 +56,7 @@ impl UncheckedSheet {
         ensures judges { verdict result ≡ head_of self.bytes.items }
         ensures keeps { MatchResult result (λ s. s.bytes ≡ self.bytes) (λ p. p.0 ≡ self) }
     {
+        // No `?` here, since a refusal hands the sheet back.
         match read_head(self.bytes.as_slice()) {
             Ok(head) => {
                 let UncheckedSheet { bytes } = self;

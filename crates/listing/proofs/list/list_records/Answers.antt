@@ -20,8 +20,8 @@ loop-place-preserved c =
       omega (arith, (drew_record _ _ _ a g).1, c.loop-place.invariant.0),
       ap (λ n. string_bytes c.push_str.new.self ++ reading_lines n zs) up
           ∙ listed_record out _ _ _ c.loop-place.invariant.1 _ _ _ a g
-              (c.in_ok-push_str-in-Ok-Some.ensures.bytes ∙ ap (λ l. out ++ l)
-              (c.as_str.ensures.value ∙ c.in_ok-line-in-Ok-Some.ensures ∙ ap (λ n. record_line n (item c.in-Ok-Some.rec)) here)),
+          (c.in_ok-push_str-in-Ok-Some.ensures.bytes ∙ ap (λ l. out ++ l)
+          (c.as_str.ensures.value ∙ c.in_ok-line-in-Ok-Some.ensures ∙ ap (λ n. record_line n (item c.in-Ok-Some.rec)) here)),
     )
 
 pub returns-in-Ok-None : goal.returns-in-Ok-None
