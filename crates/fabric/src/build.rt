@@ -5,6 +5,7 @@ ghost use Rattle.machine.specs.Machines.{new};
 use crate::state::Fabric;
 use bedrock::geometry::Geometry;
 use directory::state::Directory;
+use machine::holding::{Entry, Way};
 use parts::board::Board;
 use parts::shown::Shown;
 use parts::state::Parts;
@@ -21,14 +22,14 @@ impl<B: Board> Fabric<B> {
         let parts = Parts {
             directory: Directory {
                 geometry,
-                entries: ByWay::new(),
+                entries: ByWay::new(Entry::empty()),
             },
             protocol,
-            ways: ByWay::new(),
-            kept: ByCache::new(),
-            turns: BySetCache::new(),
-            serving: BySet::new(),
-            counts: BySet::new(),
+            ways: ByWay::new(Way::empty()),
+            kept: ByCache::new(None),
+            turns: BySetCache::new(0),
+            serving: BySet::new(None),
+            counts: BySet::new(0),
             memory,
             requests: B::Requests::new(),
             commands: B::Commands::new(),

@@ -3,7 +3,7 @@ ghost use Rattle.machine.specs.Holdings.{no_way, no_entry};
 
 use machine::holding::{Entry, Way};
 
-// What a table shows where nothing was put, and outside its places.
+// A type with a value of its own for what lies outside a table, so that no call has to name one.
 pub trait Blank: Copy {
     ghost blank: { Self };
 

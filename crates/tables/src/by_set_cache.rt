@@ -21,35 +21,44 @@ fn place(set: u8, cache: u8) -> Option<usize>
     }
 }
 
-impl<T: Blank> BySetCache<T> {
+impl<T: Copy> BySetCache<T> {
     ghost use Rattle.machine.specs.Tables.{put₂};
     ghost use Rattle.tables.specs.Grids.{rows, everywhere₂};
 
-    // A table that shows a blank everywhere.
-    pub fn new() -> BySetCache<T>
-        ensures { rows T.blank result.cells ≡ everywhere₂ T.blank }
+    // A table that shows `zero` everywhere.
+    pub fn new(zero: T) -> BySetCache<T>
+        ensures { rows zero result.cells ≡ everywhere₂ zero }
     {
-        BySetCache {
-            cells: [T::blank(); 128],
-        }
+        BySetCache { cells: [zero; 128] }
     }
 
-    // What stands at a key, and a blank outside the table.
-    pub fn get(&self, set: u8, cache: u8) -> T
-        ensures { result ≡ rows T.blank self.now.cells set cache }
+    // What stands at a key, and `zero` outside the table.
+    pub fn get_or(&self, set: u8, cache: u8, zero: T) -> T
+        ensures { result ≡ rows zero self.now.cells set cache }
     {
         match place(set, cache) {
             Some(at) => self.cells[at],
-            None => T::blank(),
+            None => zero,
         }
     }
 
-    // Replaces what stands at a key. Outside the table nothing changes.
+    // Replaces what stands at a key. Outside the table nothing changes, whatever is shown there.
     pub fn put(&mut self, set: u8, cache: u8, value: T)
-        ensures { rows T.blank self.new.cells ≡ put₂ 16 8 (rows T.blank self.old.cells) set cache value }
+        ensures { (zero : T) → rows zero self.new.cells ≡ put₂ 16 8 (rows zero self.old.cells) set cache value }
     {
         if let Some(at) = place(set, cache) {
             self.cells[at] = value;
         }
+    }
+}
+
+impl<T: Blank> BySetCache<T> {
+    ghost use Rattle.tables.specs.Grids.{rows};
+
+    // What stands at a key, and the blank of the type outside the table.
+    pub fn get(&self, set: u8, cache: u8) -> T
+        ensures { result ≡ rows T.blank self.now.cells set cache }
+    {
+        self.get_or(set, cache, T::blank())
     }
 }

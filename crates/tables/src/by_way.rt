@@ -22,35 +22,44 @@ fn place(set: u8, cache: u8, way: u8) -> Option<usize>
     }
 }
 
-impl<T: Blank> ByWay<T> {
+impl<T: Copy> ByWay<T> {
     ghost use Rattle.machine.specs.Tables.{put₃};
     ghost use Rattle.tables.specs.Grids.{grid, everywhere₃};
 
-    // A table that shows a blank everywhere.
-    pub fn new() -> ByWay<T>
-        ensures { grid T.blank result.cells ≡ everywhere₃ T.blank }
+    // A table that shows `zero` everywhere.
+    pub fn new(zero: T) -> ByWay<T>
+        ensures { grid zero result.cells ≡ everywhere₃ zero }
     {
-        ByWay {
-            cells: [T::blank(); 512],
-        }
+        ByWay { cells: [zero; 512] }
     }
 
-    // What stands at a key, and a blank outside the table.
-    pub fn get(&self, set: u8, cache: u8, way: u8) -> T
-        ensures { result ≡ grid T.blank self.now.cells set cache way }
+    // What stands at a key, and `zero` outside the table.
+    pub fn get_or(&self, set: u8, cache: u8, way: u8, zero: T) -> T
+        ensures { result ≡ grid zero self.now.cells set cache way }
     {
         match place(set, cache, way) {
             Some(at) => self.cells[at],
-            None => T::blank(),
+            None => zero,
         }
     }
 
-    // Replaces what stands at a key. Outside the table nothing changes.
+    // Replaces what stands at a key. Outside the table nothing changes, whatever is shown there.
     pub fn put(&mut self, set: u8, cache: u8, way: u8, value: T)
-        ensures { grid T.blank self.new.cells ≡ put₃ 16 8 4 (grid T.blank self.old.cells) set cache way value }
+        ensures { (zero : T) → grid zero self.new.cells ≡ put₃ 16 8 4 (grid zero self.old.cells) set cache way value }
     {
         if let Some(at) = place(set, cache, way) {
             self.cells[at] = value;
         }
+    }
+}
+
+impl<T: Blank> ByWay<T> {
+    ghost use Rattle.tables.specs.Grids.{grid};
+
+    // What stands at a key, and the blank of the type outside the table.
+    pub fn get(&self, set: u8, cache: u8, way: u8) -> T
+        ensures { result ≡ grid T.blank self.now.cells set cache way }
+    {
+        self.get_or(set, cache, way, T::blank())
     }
 }

@@ -1,5 +1,5 @@
 // The tables of a fabric: fixed room for the largest geometry, and accessors that take every key. Outside its places a table
-// shows a blank, and a write there changes nothing. So no step that uses one has a key to check.
+// shows what a reader names, or the blank of its type, and a write there changes nothing. So no step that uses one has a key to check.
 #![tactic(auto)]
 
 pub mod blank;

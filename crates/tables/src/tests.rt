@@ -4,8 +4,8 @@ use crate::column::{ByCache, BySet};
 
 #[test]
 fn columns_show_what_was_put(rt: HostRuntime) {
-    let mut caches: ByCache<Option<u8>> = ByCache::new();
-    let mut sets: BySet<u16> = BySet::new();
+    let mut caches: ByCache<Option<u8>> = ByCache::new(None);
+    let mut sets: BySet<u16> = BySet::new(0);
     caches.put(7, Some(1));
     caches.put(8, Some(2));
     sets.put(8, 300);
@@ -18,8 +18,8 @@ fn columns_show_what_was_put(rt: HostRuntime) {
 
 #[test]
 fn tables_of_more_keys_show_what_was_put(rt: HostRuntime) {
-    let mut turns: BySetCache<u8> = BySetCache::new();
-    let mut ways: ByWay<u16> = ByWay::new();
+    let mut turns: BySetCache<u8> = BySetCache::new(0);
+    let mut ways: ByWay<u16> = ByWay::new(0);
     turns.put(15, 7, 3);
     turns.put(16, 0, 3);
     ways.put(1, 2, 3, 4);

@@ -9,11 +9,13 @@ use Rattle.fabric.proofs.state.Fabric.build.Goals as goal
 pub returns : goal.returns
 unfolding everywhere everywhere₂ everywhere₃
 returns g c =
+    let way : ◌≡◌ {A = ℕ → ℕ → ℕ → Way} (grid no_way c.new-2.result.cells) (λ _ _ _. no_way) = rw c.empty-2.ensures at c.new-2.ensures in
+    let entry : ◌≡◌ {A = ℕ → ℕ → ℕ → Entry} (grid no_entry c.new.result.cells) (λ _ _ _. no_entry) = rw c.empty.ensures at c.new.ensures in
     λ t. record {
       geometry = sizes c.args.geometry;
       rows = g.B.Protocol.Protocol.row c.args.protocol;
-      way = c.new-2.ensures t;
-      entry = c.new.ensures t;
+      way = way t;
+      entry = entry t;
       kept = c.new-3.ensures t;
       turn = c.new-4.ensures t;
       serving = c.new-5.ensures t;

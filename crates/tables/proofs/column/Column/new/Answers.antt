@@ -2,4 +2,4 @@ use Rattle.tables.proofs.Grids.{column_new}
 use Rattle.tables.proofs.column.Column.new.Goals as goal
 
 pub returns : goal.returns
-returns g c = rw c.blank.ensures (column_new g.T.Blank.blank _)
+returns g c = (column_new c.args.zero _)
