@@ -1,6 +1,7 @@
 ghost use Rattle.std.specs.Prelude.{◌≡◌, Some};
 ghost use Rattle.bedrock.specs.Refusals.{number, meaning_of};
 
+use std::error::Error;
 use std::fmt;
 
 // Why a call is refused. Numbers 1 to 10 are bad input, 11 to 16 a bad moment.
@@ -64,3 +65,5 @@ impl fmt::Display for Refusal {
         f.write_str(self.meaning())
     }
 }
+
+impl Error for Refusal {}

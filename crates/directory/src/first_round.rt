@@ -1,4 +1,5 @@
 ghost use Rattle.std.specs.Prelude.{◌≡◌, ◌+◌, ◌<◌, ◌≤◌, not, ◌&&◌, [], ◌∷◌, ◌++◌, length, if◌then◌else◌, ◌==◌};
+ghost use Rattle.std.specs.Option.{option_to_list};
 ghost use Rattle.messages.specs.declared.command.Command.TheVariants.{Invalidate};
 ghost use Rattle.machine.specs.Machines.{home};
 ghost use Rattle.machine.specs.Directory.{shown_way, shown_state, sharing, or_zero};
@@ -13,28 +14,26 @@ use messages::request::{Access, Request};
 use protocols::state::State;
 
 // What empties a way that shows this entry, if it shows a block: what may be dirty is written back.
-fn eviction(cache: u8, way: u8, shown: Entry) -> Batch
-    ensures value { result.items ≡ evict cache way shown }
-    ensures few { length result.items ≤ 1 }
+fn eviction(cache: u8, way: u8, shown: Entry) -> Option<Command>
+    ensures { option_to_list result ≡ evict cache way shown }
 {
     let block = shown.block;
-    let mut batch = Batch::new();
     if shown.state.may_be_dirty() {
-        batch.push(Command::SetStateWriteback { cache, block, way });
-    } else if shown.state.held() {
-        batch.push(Command::Invalidate { cache, block, way });
+        return Some(Command::SetStateWriteback { cache, block, way });
     }
-    batch
+    if shown.state.held() {
+        return Some(Command::Invalidate { cache, block, way });
+    }
+    None
 }
 
 impl Directory {
     // The victim's command: none where the request only upgrades.
-    fn victim(&self, request: Request) -> Batch
-        ensures value { result.items ≡ (if upgrading (alone self.now) request then [] else evict request.cache request.way ((alone self.now).entry (home (alone self.now) request.block) request.cache request.way)) }
-        ensures few { length result.items ≤ 1 }
+    fn victim(&self, request: Request) -> Option<Command>
+        ensures { option_to_list result ≡ (if upgrading (alone self.now) request then [] else evict request.cache request.way ((alone self.now).entry (home (alone self.now) request.block) request.cache request.way)) }
     {
         if self.upgrades(request) {
-            return Batch::new();
+            return None;
         }
         let set = self.geometry.set_of(request.block);
         eviction(
@@ -45,34 +44,34 @@ impl Directory {
     }
 
     // Whether a cache other than the requestor is shown in S.
-    fn is_other_sharer(&self, requestor: u8, block: u16, cache: u8) -> bool
-        ensures { result ≡ (sharing (shown_state (alone self.now) cache block) && not (cache == requestor)) }
+    fn is_other_sharer(&self, request: Request, cache: u8) -> bool
+        ensures { result ≡ (sharing (shown_state (alone self.now) cache request.block) && not (cache == request.cache)) }
     {
-        self.shown_state(cache, block) == State::S && cache != requestor
+        self.shown_state(cache, request.block) == State::S && cache != request.cache
     }
 
     // Such a cache lets go of the block.
-    fn dismiss_one(&self, batch: &mut Batch, requestor: u8, block: u16, cache: u8)
+    fn dismiss_one(&self, batch: &mut Batch, request: Request, cache: u8)
         requires { length batch.old.items < 9 }
-        ensures after { batch.new.items ≡ batch.old.items ++ (if sharing (shown_state (alone self.now) cache block) && not (cache == requestor) then Invalidate cache block (or_zero (shown_way (alone self.now) cache block)) ∷ [] else []) }
+        ensures after { batch.new.items ≡ batch.old.items ++ (if sharing (shown_state (alone self.now) cache request.block) && not (cache == request.cache) then Invalidate cache request.block (or_zero (shown_way (alone self.now) cache request.block)) ∷ [] else []) }
         ensures few { length batch.new.items ≤ length batch.old.items + 1 }
     {
-        if self.is_other_sharer(requestor, block, cache) {
+        if self.is_other_sharer(request, cache) {
             batch.push(Command::Invalidate {
                 cache,
-                block,
-                way: self.way_of(cache, block),
+                block: request.block,
+                way: self.way_of(cache, request.block),
             });
         }
     }
 
     // Each other cache that is shown in S lets go of the block, lowest first.
-    fn dismiss(&self, batch: &mut Batch, requestor: u8, block: u16)
+    fn dismiss(&self, batch: &mut Batch, request: Request)
         requires { length batch.old.items ≤ 1 }
-        ensures { batch.new.items ≡ batch.old.items ++ dismiss (alone self.now) requestor block self.now.geometry.caches }
+        ensures { batch.new.items ≡ batch.old.items ++ dismiss (alone self.now) request.cache request.block self.now.geometry.caches }
     {
         for cache in 0..self.geometry.caches() {
-            self.dismiss_one(batch, requestor, block, cache);
+            self.dismiss_one(batch, request, cache);
         }
     }
 
@@ -80,13 +79,14 @@ impl Directory {
     pub fn first_round(&self, request: Request) -> Batch
         ensures { result.items ≡ first_round (alone self.now) request }
     {
-        let mut batch = self.victim(request);
-        match request.access {
-            Access::Read => batch,
-            Access::Write => {
-                self.dismiss(&mut batch, request.cache, request.block);
-                batch
-            }
+        let mut batch = Batch::new();
+        if let Some(command) = self.victim(request) {
+            batch.push(command);
         }
+        match request.access {
+            Access::Read => {}
+            Access::Write => self.dismiss(&mut batch, request),
+        }
+        batch
     }
 }

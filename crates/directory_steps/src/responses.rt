@@ -9,7 +9,7 @@ use crate::round_two::{begin_two, from_memory};
 use bedrock::refusal::Refusal;
 use bedrock::words::Words;
 use machine::answer::Answer;
-use machine::transaction::{Round, Source, Transaction};
+use machine::transaction::{Job, Round, Source, Transaction};
 use messages::memory_command::MemoryCommand;
 use messages::response::Response;
 use parts::board::Board;
@@ -68,18 +68,17 @@ fn pass_on<B: Board>(parts: &mut Parts<B>, cache: u8, block: u16, words: Words)
 }
 
 // An answer of round one is in: the last one starts round two.
-fn one_fewer<B: Board>(parts: &mut Parts<B>, set: u8, transaction: Transaction, left: u8)
-    requires { (transaction.round ≡ One left) × ((length (B.MemoryCommands.waiting parts.old.memory_commands) + memory_reads (starts (Some transaction)) ≤ 128) × (length (B.Commands.waiting parts.old.commands) + commands_sent (starts (Some transaction)) ≤ 128)) }
-    ensures { ⟦<Parts<B> as Shown>⟧.machine parts.new ≡ advance_step (⟦<Parts<B> as Shown>⟧.machine parts.old) set (Some transaction) }
+fn one_fewer<B: Board>(parts: &mut Parts<B>, set: u8, job: Job, left: u8)
+    requires { (length (B.MemoryCommands.waiting parts.old.memory_commands) + memory_reads (starts (Some (record { job = job; round = One left }))) ≤ 128) × (length (B.Commands.waiting parts.old.commands) + commands_sent (starts (Some (record { job = job; round = One left }))) ≤ 128) }
+    ensures { ⟦<Parts<B> as Shown>⟧.machine parts.new ≡ advance_step (⟦<Parts<B> as Shown>⟧.machine parts.old) set (Some (record { job = job; round = One left })) }
 {
     if left == 0 {
         return;
     }
     if left == 1 {
-        begin_two(parts, transaction.job);
+        begin_two(parts, job);
         return;
     }
-    let job = transaction.job;
     let round = Round::One { left: left - 1 };
     parts.serving.put(set, Some(Transaction { job, round }));
 }
@@ -100,9 +99,9 @@ fn advance<B: Board>(parts: &mut Parts<B>, set: u8, transaction: Transaction, re
             },
         ) => {
             pass_on(parts, cache, block, words);
-            one_fewer(parts, set, transaction, left);
+            one_fewer(parts, set, transaction.job, left);
         }
-        (Round::One { left }, _) => one_fewer(parts, set, transaction, left),
+        (Round::One { left }, _) => one_fewer(parts, set, transaction.job, left),
         (
             Round::Two,
             Response::Writeback {

@@ -6,7 +6,7 @@ use messages::response::Response;
 use protocols::protocol::Protocol;
 use std::marker::PhantomData;
 use wires::channel::Channel;
-use wires::wire::{Choice, Wire};
+use wires::wire::Wire;
 
 // What a fabric is built over: a protocol, a channel for each of the four families of messages, and a memory.
 pub trait Board {
@@ -50,24 +50,11 @@ impl<
 }
 
 // A board whose four channels are wires of one kind.
-pub struct Uniform<P, K, M> {
-    of: PhantomData<(P, K, M)>,
-}
-
-impl<
-    P: Protocol,
-    K: Choice<Request> + Choice<Command> + Choice<Response> + Choice<MemoryCommand>,
-    M: Memory,
-> Board for Uniform<P, K, M> {
-    type Protocol = P;
-
-    type Requests = Wire<Request, K>;
-
-    type Commands = Wire<Command, K>;
-
-    type Responses = Wire<Response, K>;
-
-    type MemoryCommands = Wire<MemoryCommand, K>;
-
-    type Memory = M;
-}
+pub type Uniform<P, K, M> = Wiring<
+    P,
+    Wire<Request, K>,
+    Wire<Command, K>,
+    Wire<Response, K>,
+    Wire<MemoryCommand, K>,
+    M,
+>;

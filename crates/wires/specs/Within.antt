@@ -2,7 +2,7 @@
 use Rattle.std.proofs.Common.{◌≡◌, ℕ, zero, suc, ◌<◌, Bool, true, false, cond, List, [], ◌∷◌, length, Some, None, Option, refl, ap, ◌∙◌, arith}
 use Rattle.std.specs.List.{slice_get}
 use Rattle.std.proofs.lemmas.Nat.{mod_below}
-use Rattle.std.proofs.lemmas.Bool.Decides.{nat_tests}
+use Rattle.std.proofs.lemmas.Bool.{eq-eqb}
 use Rattle.bedrock.specs.declared.party.Party.{Party}
 use Rattle.bedrock.specs.declared.party.Party.TheVariants.{Cache, Directory, Memory}
 use Rattle.bedrock.specs.Parties.{same_party}
@@ -17,7 +17,7 @@ single_file_within xs p h = h
 
 -- where one passes, the first that passes stands within the list
 first_within : {X : Type 0} (t : X → Bool) (xs : List X) (i : ℕ) (m : X) → slice_get xs i ≡ Some m → t m ≡ true → first_by t xs < length xs
-first_within t [] i m e h = let z : ◌≡◌ {A = ℕ} 0 1 = cc in absurd (omega arith)
+first_within t [] i m e h = absurd cc
 first_within t (x ∷ xs) zero m e h =
     let same : x ≡ m = cc in
     let here : t x ≡ true = ap t same ∙ h in
@@ -27,7 +27,7 @@ first_within t (x ∷ xs) (suc i) m e h =
     elim (t x) as (λ b. cond b 0 (suc (first_by t xs)) < suc (length xs)) [ true ↦ omega arith | false ↦ omega arith ]
 
 party_self : (p : Party) → same_party p p ≡ true
-party_self (Cache a) = grind (arith, nat_tests)
+party_self (Cache a) = eq-eqb a a refl
 party_self Directory = refl
 party_self Memory = refl
 

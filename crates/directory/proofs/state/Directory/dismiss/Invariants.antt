@@ -6,4 +6,4 @@ use Rattle.directory.proofs.state.Directory.dismiss.Given as goal
 abbrev pub invariant-loop-cache : goal.invariant-loop-cache
 invariant-loop-cache l =
     (length l.batch.items ≤ 1 + l.cache)
-    × (l.batch.items ≡ l.initial.batch.items ++ dismiss (alone l.self) l.requestor l.block l.cache)
+    × (l.batch.items ≡ l.initial.batch.items ++ dismiss (alone l.self) l.request.cache l.request.block l.cache)
