@@ -56,7 +56,7 @@ fn sends_on(command: Command) -> bool
     matches!(command, Command::Transfer { .. })
 }
 
-// That a channel has room is a `requires` of each step, and no invariant: it holds at that moment alone.
+// That a channel has room is a `requires` of each step, and no invariant: it holds at that moment alone. Each names its own channel and number.
 
 // The requestor has the block's words in a state: the kept order is carried out, the wait ends, and Coherence Ack goes out.
 fn fill<B: Board>(parts: &mut Parts<B>, at: Target, state: State, words: Words) -> Answer

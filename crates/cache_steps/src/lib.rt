@@ -1,4 +1,4 @@
-// What happens at a cache: its orders, and the commands that arrive there.
+// What happens at a cache: its orders, and the commands that arrive there. Free functions, since the parts are another crate's type.
 #![tactic(auto)]
 
 pub mod commands;

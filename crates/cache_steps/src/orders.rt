@@ -77,7 +77,7 @@ fn empty_way<B: Board>(parts: &Parts<B>, cache: u8, set: u8) -> Option<u8>
     (0..parts.directory.geometry.ways()).find(|way| !parts.ways.get(set, cache, *way).state.held())
 }
 
-// That a channel has room is a `requires` of each step, and no invariant: it holds at that moment alone.
+// That a channel has room is a `requires` of each step, and no invariant: it holds at that moment alone. Each names its own channel and number.
 
 // The cache keeps the order and waits, and a request goes out that names the way.
 fn ask_for<B: Board>(parts: &mut Parts<B>, cache: u8, asked: Order, way: u8) -> Answer

@@ -47,7 +47,7 @@ impl Directory {
     fn is_other_sharer(&self, request: Request, cache: u8) -> bool
         ensures { result ≡ (sharing (shown_state (alone self.now) cache request.block) && not (cache == request.cache)) }
     {
-        self.shown_state(cache, request.block) == State::S && cache != request.cache
+        self.shown_state(cache, request.block).sharing() && cache != request.cache
     }
 
     // Such a cache lets go of the block.

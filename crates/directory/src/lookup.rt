@@ -53,7 +53,7 @@ impl Directory {
     fn sharer(&self, block: u16) -> Option<u8>
         ensures { result ≡ lowest (λ c. sharing (shown_state (alone self.now) c block)) self.now.geometry.caches }
     {
-        (0..self.geometry.caches()).find(|cache| self.shown_state(*cache, block) == State::S)
+        (0..self.geometry.caches()).find(|cache| self.shown_state(*cache, block).sharing())
     }
 
     // The state of a block whose owner was looked up: without an owner S where a cache shares it, else I.

@@ -13,11 +13,13 @@ use messages::request::Access;
 use protocols::state::State;
 use tables::by_way::ByWay;
 
+// Functions over the entries alone: as methods of the directory each would have to say too that the geometry stays.
+
 // What an entry becomes when a block is written: in S with this block it shows nothing more.
 fn after_write(shown: Entry, block: u16) -> Entry
     ensures { result ≡ dismissed true block shown }
 {
-    if shown.state == State::S && shown.block == block {
+    if shown.state.sharing() && shown.block == block {
         return Entry::empty();
     }
     shown

@@ -22,7 +22,7 @@ fn is_read(command: MemoryCommand) -> bool
     matches!(command, MemoryCommand::Read { .. })
 }
 
-// That a channel has room is a `requires` of each step, and no invariant: it holds at that moment alone.
+// That a channel has room is a `requires` of each step, and no invariant: it holds at that moment alone. Each names its own channel and number.
 
 // A read sends the words to the requestor, a write changes the memory.
 fn carry_out<B: Board>(parts: &mut Parts<B>, command: MemoryCommand)

@@ -14,7 +14,7 @@ use parts::shown::Shown;
 use parts::state::Parts;
 use wires::channel::Channel;
 
-// That a channel has room is a `requires` of each step, and no invariant: it holds at that moment alone.
+// That a channel has room is a `requires` of each step, and no invariant: it holds at that moment alone. Each names its own channel and number.
 
 // Sends the commands of a batch, in their order.
 fn send_all<C: Channel<Command>>(channel: &mut C, batch: &Batch)

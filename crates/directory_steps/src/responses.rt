@@ -53,7 +53,7 @@ fn commands_sent(start: Option<Source>) -> usize
     start.map_or(0, |source| !from_memory(source) as usize)
 }
 
-// That a channel has room is a `requires` of each step, and no invariant: it holds at that moment alone.
+// That a channel has room is a `requires` of each step, and no invariant: it holds at that moment alone. Each names its own channel and number.
 
 // A Writeback makes the directory send a memory write, which is awaited.
 fn pass_on<B: Board>(parts: &mut Parts<B>, cache: u8, block: u16, words: Words)

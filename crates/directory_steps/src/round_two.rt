@@ -19,7 +19,7 @@ pub(crate) fn from_memory(source: Source) -> bool
     matches!(source, Source::Memory)
 }
 
-// That a channel has room is a `requires` of each step, and no invariant: it holds at that moment alone.
+// That a channel has room is a `requires` of each step, and no invariant: it holds at that moment alone. Each names its own channel and number.
 
 // What round two sends: a memory read, a Wakeup for an upgrade, or a Transfer to the owner. A memory read and a write back are
 // awaited too.

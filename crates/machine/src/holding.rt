@@ -35,7 +35,7 @@ impl Way {
     }
 }
 
-// What the directory shows of a way. In I it shows zeros.
+// What the directory shows of a way. In I it shows zeros. A type beside `Way`, since an entry has no words.
 #[derive(Clone, Copy, Default)]
 pub struct Entry {
     pub state: State,

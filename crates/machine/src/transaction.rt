@@ -19,7 +19,8 @@ pub enum Source {
     },
 }
 
-// What accepting a request decided, kept until the set's count is 0 again.
+// What accepting a request decided, kept until the set's count is 0 again: each field by the name that the definitions give it, the request's
+// own four among them.
 #[derive(Clone, Copy)]
 pub struct Job {
     pub access: Access,

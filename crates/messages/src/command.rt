@@ -6,7 +6,7 @@ use bedrock::party::{Party, Routed};
 use bedrock::words::Words;
 use protocols::state::State;
 
-// What a cache is told to do. `cache`, `block` and `way` say where: the cache that gets the command, and which of its ways.
+// What a cache is told to do, each kind with all its fields by name, as the definitions and docs/RULES.md write them. `cache`, `block` and `way` say where: the cache that gets the command, and which of its ways.
 #[derive(Clone, Copy)]
 pub enum Command {
     // Let go of the block; answered by an Invalidate Ack.

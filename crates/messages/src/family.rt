@@ -13,7 +13,7 @@ pub enum Family {
     MemoryCommands,
 }
 
-// The family on the channel of a number from 0 to 3.
+// The family on the channel of a number from 0 to 3. By hand: no derive makes the standard conversions.
 impl TryFrom<u8> for Family {
     type Error = Refusal;
 

@@ -1,5 +1,5 @@
-// The parts of a fabric, held together, and what they are built over. Only the steps and the fabric itself use the parts: the fabric
-// keeps them to itself.
+// What a fabric is built over, and the parts of a fabric, held together. Only the steps and the fabric itself use the parts: the fabric keeps
+// them to itself.
 #![tactic(auto)]
 
 pub mod board;

@@ -7,7 +7,7 @@ use tables::by_set_cache::BySetCache;
 use tables::by_way::ByWay;
 use tables::column::{ByCache, BySet};
 
-// What a fabric is made of.
+// What a fabric is made of: a table for each of the machine's, so that a step that changes one leaves the others.
 #[derive(Drop)]
 pub struct Parts<B: Board> {
     pub directory: Directory,

@@ -21,6 +21,7 @@ struct Note {
     to: Party,
 }
 
+// By hand: a party has no default.
 impl Default for Note {
     fn default() -> Note {
         numbered(0)
@@ -71,16 +72,18 @@ fn row<C: Channel<Note> + Drop>(
     Ok(row)
 }
 
+// The row of a kind of channel, after its name and the count.
+fn print_row<C: Channel<Note> + Drop>(rt: &HostRuntime, name: &str, count: u8) -> io::Result<()> {
+    print!(rt; "{name} {count} ")?;
+    let row = row(rt.alloc(), C::new(), count)?;
+    rt.stdout().write_all(row.as_slice())
+}
+
 fn main(rt: HostRuntime) -> io::Result<()> {
-    let heap = rt.alloc();
-    let mut out = rt.stdout();
     for count in 0..7u8 {
-        print!(rt; "unordered {count} ")?;
-        out.write_all(row::<Unordered<Note>>(heap, Channel::new(), count)?.as_slice())?;
-        print!(rt; "paired {count} ")?;
-        out.write_all(row::<Paired<Note>>(heap, Channel::new(), count)?.as_slice())?;
-        print!(rt; "single file {count} ")?;
-        out.write_all(row::<SingleFile<Note>>(heap, Channel::new(), count)?.as_slice())?;
+        print_row::<Unordered<Note>>(&rt, "unordered", count)?;
+        print_row::<Paired<Note>>(&rt, "paired", count)?;
+        print_row::<SingleFile<Note>>(&rt, "single file", count)?;
     }
     Ok(())
 }

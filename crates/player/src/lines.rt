@@ -1,4 +1,4 @@
-ghost use Rattle.std.specs.Prelude.{◌≡◌, IfOk, string_bytes};
+ghost use Rattle.std.specs.Prelude.{◌≡◌, IfOk, Some};
 ghost use Rattle.bedrock.specs.Refusals.{number};
 ghost use Rattle.machine.specs.Outcomes.{said};
 ghost use Rattle.player.specs.Lines.{content_says, line as line_of, note_text, refusal_line, say_text};
@@ -7,16 +7,25 @@ use crate::contents::fits;
 use bedrock::refusal::Refusal;
 use machine::answer::Answer;
 use std::alloc::{AllocError, Global};
+use std::fmt;
 
 // What a call answered, in words.
-fn answer_text(heap: Global, answer: Result<Answer, Refusal>) -> Result<String, AllocError>
-    ensures { IfOk result (λ s. string_bytes s ≡ say_text (said answer)) }
-{
-    match answer {
-        Ok(Answer::MovedOn) => String::from_str(heap, "ok"),
-        Ok(Answer::Loaded { cache, value }) => format!(in heap; "load {cache} {value}"),
-        Ok(Answer::Stored { cache, value }) => format!(in heap; "store {cache} {value}"),
-        Err(why) => format!(in heap; "no {}", why.number()),
+#[derive(Clone, Copy)]
+struct Said(Result<Answer, Refusal>);
+
+impl fmt::Display for Said {
+    ghost output = { λ s. Some (say_text (said s.0)) };
+
+    fn fmt<W: fmt::Write>(&self, f: &mut fmt::Formatter<W>) -> fmt::Result {
+        match self.0 {
+            Ok(Answer::MovedOn) => f.write_str("ok"),
+            Ok(Answer::Loaded { cache, value }) => write!(f, "load {cache} {value}"),
+            Ok(Answer::Stored { cache, value }) => write!(f, "store {cache} {value}"),
+            Err(why) => {
+                let code = why.number();
+                write!(f, "no {code}")
+            }
+        }
     }
 }
 
@@ -28,8 +37,8 @@ pub(crate) fn answer_line(
 ) -> Result<Vec<u8>, AllocError>
     ensures { IfOk result (λ v. v.items ≡ line_of place (say_text (said answer))) }
 {
-    let text = answer_text(heap, answer)?;
-    let line = format!(in heap; "{place} {text}\n")?;
+    let said = Said(answer);
+    let line = format!(in heap; "{place} {said}\n")?;
     Ok(line.into_bytes())
 }
 

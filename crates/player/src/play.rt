@@ -48,7 +48,7 @@ where
     record_lines(heap, &mut again, blocks, done.answers.as_slice())
 }
 
-// The same over the kind of channels that the head names.
+// The same over the kind of channels that the head names: a kind chooses types, so that each has its arm.
 fn play_over<M: Memory + Drop>(
     heap: Global,
     head: &Head,

@@ -18,7 +18,7 @@ pub enum ProtocolKind {
     Moesif,
 }
 
-// The protocol of a code from 0 to 7.
+// The protocol of a code from 0 to 7. By hand for each kind: no derive makes the standard conversions.
 impl TryFrom<u8> for ProtocolKind {
     type Error = Refusal;
 

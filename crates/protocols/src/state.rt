@@ -1,5 +1,6 @@
 ghost use Rattle.std.specs.Prelude.{◌≡◌};
-ghost use Rattle.protocols.specs.States.{held, owning, writable, dirty, may_be_dirty};
+ghost use Rattle.protocols.specs.declared.state.State.TheVariants.{S};
+ghost use Rattle.protocols.specs.States.{same_state, held, owning, writable, dirty, may_be_dirty};
 
 // The state in which a cache has a block: Invalid, Shared, Exclusive, Modified, Owned or Forward.
 // The directory keeps the same states, but cannot tell E from M: a store in E takes M without a message.
@@ -20,6 +21,13 @@ impl State {
         ensures { result ≡ held self }
     {
         self != State::I
+    }
+
+    // Whether the cache has the block, and others may have it too.
+    pub fn sharing(self) -> bool
+        ensures { result ≡ same_state self S }
+    {
+        self == State::S
     }
 
     // Whether the cache is the block's owner, which hands its words to others.

@@ -7,7 +7,7 @@ use bedrock::geometry::Geometry;
 use bedrock::refusal::Refusal;
 use protocols::protocol_kind::ProtocolKind;
 
-// What a head says, as the numbers that stand in it; nothing is judged yet.
+// What a head says, as the numbers that stand in it; nothing is judged yet. The writer takes these, and refuses those out of bounds.
 #[derive(Clone, Copy)]
 pub struct HeadCodes {
     pub protocol: u8,

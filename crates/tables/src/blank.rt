@@ -3,7 +3,8 @@ ghost use Rattle.machine.specs.Holdings.{no_way, no_entry};
 
 use machine::holding::{Entry, Way};
 
-// A type with a value of its own for what lies outside a table, so that no call has to name one.
+// A type with a value of its own for what lies outside a table, so that no call has to name one. Not `Default`: its contract says what
+// holds of a default, and not which value it is.
 pub trait Blank: Copy {
     ghost blank: { Self };
 

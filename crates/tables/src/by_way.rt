@@ -2,8 +2,10 @@ ghost use Rattle.std.specs.Prelude.{◌≡◌, ◌<◌, ◌+◌, ◌*◌, ◌&&�
 
 use crate::blank::Blank;
 
-// By hand beside `BySetCache`: a table generic in its key would need a key type with a law of its places, which is longer than the two.
 // Something for each way of each cache in each set: room for 16 sets of 8 caches of 4 ways.
+//
+// Beside `BySetCache` by hand: each key is tested against its own bounds and has its own law of places, which one table over a key type would
+// hold once more.
 #[derive(Drop)]
 pub struct ByWay<T> {
     cells: [T; 512],
