@@ -31,8 +31,14 @@ module _ (test : ℕ → Bool) where
   first_at zero i h passes fails = absurd (omega arith)
   first_at (suc n) i h passes fails = last n i h passes fails (λ l. first_at n i l passes fails) (cases_eq i n)
 
-pub lowest_from_find : (test : ℕ → Bool) (n : ℕ) (r : Option ℕ)
+lowest_by : (test : ℕ → Bool) (n : ℕ) (r : Option ℕ)
     → MatchOption r ((k : ℕ) → 0 ≤ k → k < n → test k ≡ false) (λ i. (0 ≤ i) × (i < n) × (test i ≡ true) × ((k : ℕ) → 0 ≤ k → k < i → test k ≡ false))
     → r ≡ lowest test n
-lowest_from_find test n None h = sym (none_below test n h)
-lowest_from_find test n (Some i) h = sym (first_at test n i h.1 h.2 h.3)
+lowest_by test n None h = sym (none_below test n h)
+lowest_by test n (Some i) h = sym (first_at test n i h.1 h.2 h.3)
+
+-- where the code's end of the range, m, is the definition's, n
+pub lowest_from_find : (test : ℕ → Bool) (m n : ℕ) (r : Option ℕ) → m ≡ n
+    → MatchOption r ((k : ℕ) → 0 ≤ k → k < m → test k ≡ false) (λ i. (0 ≤ i) × (i < m) × (test i ≡ true) × ((k : ℕ) → 0 ≤ k → k < i → test k ≡ false))
+    → r ≡ lowest test n
+lowest_from_find test m n r e h = lowest_by test m r h ∙ ap (lowest test) e

@@ -1,7 +1,6 @@
-use Rattle.std.proofs.Common.{◌≡◌, ℕ, Bool, true, false, ap, ◌∙◌, rules}
+use Rattle.std.proofs.Common.{◌≡◌, ℕ, Bool, true, false, rules}
 use Rattle.std.proofs.lemmas.Iterator.{first_from_Range}
 use Rattle.machine.specs.Directory.{shown_state, sharing}
-use Rattle.machine.specs.Tables.{lowest}
 use Rattle.directory.specs.Alone.{alone}
 use Rattle.directory.proofs.Searches.{lowest_from_find}
 use Rattle.directory.proofs.state.Directory.sharer.Goals as goal
@@ -9,6 +8,5 @@ use Rattle.directory.proofs.state.Directory.sharer.Goals as goal
 pub returns : goal.returns
 returns c =
     let shares : ℕ → Bool = λ k. sharing (shown_state (alone c.args.self.now) k c.args.block) in
-    lowest_from_find shares c.caches.result c.find.result
+    lowest_from_find shares _ _ c.find.result c.caches.ensures
     (first_from_Range _ _ _ _ (λ k. shares k ≡ true) (λ k. shares k ≡ false) c.find.ensures.ran (λ k q p. search rules) (λ k q p. search rules))
-    ∙ ap (lowest shares) c.caches.ensures
