@@ -13,7 +13,7 @@ within (x ∷ xs) (suc i) h = ap (λ l. x ∷ l) (within xs i (omega arith))
 
 past : {X : Type 0} (xs : List X) (i : ℕ) → slice_get xs i ≡ None → xs ≡ without xs i
 past [] i e = refl
-past (x ∷ xs) zero e = let z : ◌≡◌ {A = ℕ} 0 1 = cc in absurd (omega arith)
+past (x ∷ xs) zero e = absurd cc
 past (x ∷ xs) (suc i) e = ap (λ l. x ∷ l) (past xs i e)
 
 -- what is left after the message at an index was taken, or there was none

@@ -1,8 +1,5 @@
-use Rattle.tables.proofs.Grids.{placed, rows_written}
+use Rattle.tables.proofs.Grids.{rows_written}
 use Rattle.tables.proofs.by_set_cache.BySetCache.put.Goals as goal
 
 pub returns-in-Some : goal.returns-in-Some
-returns-in-Some g c =
-    let a = c.args in
-    let at = placed _ _ _ c.in-Some.ensures.value in
-    λ zero. rows_written zero a.self.now.cells a.set a.cache _ a.value at.0 at.1 a.self.now.sized
+returns-in-Some g c = let a = c.args in λ zero. rows_written zero a.self.now.cells a.set a.cache _ a.value c.in-Some.ensures.value a.self.now.sized
