@@ -25,7 +25,7 @@ fn next_turn(turn: u8, ways: u8) -> u8
     }
 }
 
-// Carries out an order at a way that has the block's words in a state: a load answers its word, a store replaces it and leaves M.
+// Carries out an order at a way that has the block's words in a state, each named apart, as in the definition: a load answers its word, a store replaces it and leaves M.
 pub(crate) fn finish<B: Board>(
     parts: &mut Parts<B>,
     set: u8,

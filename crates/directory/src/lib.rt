@@ -1,4 +1,5 @@
 // The directory: what it shows of each block, and what accepting a request decides.
+// A cache and a block stand side by side, since each question pairs them anew.
 #![tactic(auto)]
 
 pub mod batch;

@@ -7,6 +7,8 @@ use parts::shown::Shown;
 use parts::state::Parts;
 use wires::channel::Channel;
 
+// One line each, as the definitions have them.
+
 // One answer more is awaited.
 pub(crate) fn count_up<B: Board>(parts: &mut Parts<B>, set: u8)
     ensures { ⟦<Parts<B> as Shown>⟧.machine parts.new ≡ with_count (⟦<Parts<B> as Shown>⟧.machine parts.old) set (one_more ((⟦<Parts<B> as Shown>⟧.machine parts.old).count set)) }

@@ -39,7 +39,7 @@ fn starting(serving: Option<Transaction>) -> Option<Source>
     }
 }
 
-// How many memory reads that sends.
+// How many memory reads that sends. It and the next are one line each, as the definitions have them.
 fn memory_reads(start: Option<Source>) -> usize
     ensures { result ≡ memory_reads start }
 {

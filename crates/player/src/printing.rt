@@ -53,7 +53,8 @@ fn record_line(
     }
 }
 
-// The lines of all records that are left, numbered from 1. Each call has the next of the answers.
+// The lines of all records that are left, numbered from 1. Each call has the next of the answers. The listing has a loop of this form: the lines
+// are all that a shared one would leave to a closure, and these need the answers too.
 pub(crate) fn record_lines(
     heap: Global,
     reader: &mut Reader<'_>,

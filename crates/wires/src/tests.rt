@@ -31,7 +31,7 @@ impl Routed for Note {
     }
 }
 
-// The tag of a note, or 255 where there is none.
+// The tag of a note, or 255 where there is none, so that a test compares numbers alone.
 fn tag(shown: Option<Note>) -> u8 {
     shown.map_or(255, |note| note.tag)
 }
