@@ -19,8 +19,8 @@ pub enum Source {
     },
 }
 
-// What accepting a request decided, kept until the set's count is 0 again: each field by the name that the definitions give it, the request's
-// own four among them.
+// What accepting a request decided, kept until the set's count is 0 again: each field by the name that the definitions give it, the four of a
+// `Request` among them.
 #[derive(Clone, Copy)]
 pub struct Job {
     pub access: Access,
