@@ -5,13 +5,14 @@ use Rattle.std.specs.Simd.{first_chunks}
 use Rattle.std.proofs.Math.Path.{ap, fun_ext}
 use Rattle.std.specs.List.{HoldsAt}
 use Rattle.std.specs.Option.{MatchOption}
-use Rattle.std.proofs.Common.{zero, suc, Some, None, Option, Bor, refl, sym, ◌∙◌, ⊎_elim, add-zero, arith, rules}
+use Rattle.std.proofs.Common.{Some, None, Option, Bor, sym, ◌∙◌, ⊎_elim, arith, rules}
 use borrow.Rule.Slice.PartMut.{put_mid}
 use Rattle.std.proofs.lemmas.List.{places, get_or-take, get_or-drop}
 use Rattle.std.proofs.lemmas.Nat.{from_le_bytes-to_le_bytes_8}
 use Rattle.std.proofs.lemmas.Bool.{cases_lt}
 use Rattle.bedrock.specs.declared.words.Words.{Words}
 use Rattle.bedrock.specs.BlockWords.{words_of, words_in, bytes_of}
+use Rattle.bedrock.proofs.Bytes.{chunk_byte, number_is}
 use Rattle.memory.specs.Blocks.{word_at, start_of, image_blocks, empty_blocks, written}
 use Rattle.memory.specs.Beyond.{zero_block, image_beyond}
 use Rattle.memory.proofs.Writes.{all_same, default_is, written_inside}
@@ -19,16 +20,7 @@ use Rattle.memory.proofs.Writes.{all_same, default_is, written_inside}
 -- a word is what its eight bytes say
 word_is : (xs ys : List ℕ) (p : ℕ) → ((j : ℕ) → j < 8 → slice_index xs (p + j) ≡ slice_index ys j) → word_at xs p ≡ from_le_bytes w64 ys
 unfolding word_at
-word_is xs ys p h =
-    let h0 : slice_index xs p ≡ slice_index ys 0 = rw add-zero at (h 0 (omega arith)) in
-    let h1 = h 1 (omega arith) in
-    let h2 = h 2 (omega arith) in
-    let h3 = h 3 (omega arith) in
-    let h4 = h 4 (omega arith) in
-    let h5 = h 5 (omega arith) in
-    let h6 = h 6 (omega arith) in
-    let h7 = h 7 (omega arith) in
-    omega arith
+word_is xs ys p h = let n = number_is xs ys p 7 (λ j l. h j (omega arith)) in grind arith
 
 -- a block is what its sixteen bytes say
 block_is : (xs ys : List ℕ) (b : ℕ) → ((p j : ℕ) → j < 16 → p ≡ 16 * b + j → slice_index xs p ≡ slice_index ys j) → image_blocks xs b ≡ words_in ys
@@ -51,14 +43,6 @@ words_back : (words : Words) → words.first < 2 ^ 64 → words.second < 2 ^ 64 
 words_back words f s =
     ap (λ w. words_of w (from_le_bytes w64 (to_le_bytes w64 words.second))) (from_le_bytes-to_le_bytes_8 words.first f)
     ∙ ap (λ w. words_of words.first w) (from_le_bytes-to_le_bytes_8 words.second s)
-
--- the bytes of a chunk
-pub chunk_byte : (n k i : ℕ) (xs d : List ℕ) (p j : ℕ) → i < k → j < n → p ≡ i * n + j → slice_index xs p ≡ slice_index (slice_index_or (first_chunks n k xs) i d) j
-chunk_byte n zero i xs d p j h l e = absurd (omega arith)
-chunk_byte n (suc k) zero xs d p j h l e = let q : p ≡ j = omega arith in rw q (sym (get_or-take n xs j 0 l))
-chunk_byte n (suc k) (suc i) xs d p j h l e =
-    let q : p ≡ n + (i * n + j) = omega arith in
-    rw q (sym (get_or-drop n xs (i * n + j) 0) ∙ chunk_byte n k i (drop n xs) d (i * n + j) j (omega arith) l refl)
 
 -- a read: by the chunk of a block, and past the last with zeros
 pub read_is : (xs : List ℕ) (cs : List (List ℕ)) (b : ℕ) (o : Option (Bor (List ℕ))) (z r : Words) → length xs ≡ 16384 → cs ≡ first_chunks 16 1024 xs → length cs ≡ 1024

@@ -2,3 +2,4 @@ pub mod Bytes
 pub mod Fronts
 pub mod Heads
 pub mod Readings
+pub mod Fields
