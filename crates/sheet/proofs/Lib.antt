@@ -1,5 +1,5 @@
 pub mod Bytes
+pub mod Fields
 pub mod Fronts
 pub mod Heads
 pub mod Readings
-pub mod Fields
