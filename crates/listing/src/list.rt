@@ -8,7 +8,8 @@ use sheet::reader::Reader;
 use sheet::sheets::{CheckedSheet, UncheckedSheet};
 use std::alloc::{AllocError, Global};
 
-// Adds a line for each record that is left, from number 1 on.
+// Adds a line for each record that is left, from number 1 on. The player has a loop of this form: the line is all that a shared one
+// would leave to a closure, and the player's lines need the answers too.
 fn list_records(heap: Global, reader: &mut Reader<'_>, out: &mut String) -> Result<(), AllocError>
     requires { length (left reader.old) ≤ 32768 }
     ensures { OnOk result (string_bytes out.new ≡ string_bytes out.old ++ reading_lines 1 (reading (left reader.old))) }
