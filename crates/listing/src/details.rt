@@ -1,9 +1,10 @@
-ghost use Rattle.std.specs.Prelude.{◌≡◌, ◌/◌, ◌++◌, length, Some};
+ghost use Rattle.std.specs.Prelude.{◌≡◌, ◌+◌, ◌/◌, ◌<◌, ◌≤◌, ◌++◌, length, take, Some};
+ghost use Rattle.std.specs.Str.{IsAscii};
 ghost use Rattle.sheet.specs.Records.{item};
-ghost use Rattle.listing.specs.Lines.{details, escaped, first_words, opening, plain, shown};
+ghost use Rattle.listing.specs.Lines.{details, escaped, first_words, hex_digit, opening, plain, shown};
 
 use sheet::records::Record;
-use std::fmt;
+use std::{fmt, str};
 
 // Printable ASCII, but for the backslash, which begins an escape.
 fn is_plain(byte: u8) -> bool
@@ -12,22 +13,46 @@ fn is_plain(byte: u8) -> bool
     matches!(byte, b' '..=b'~') && byte != b'\\'
 }
 
-// A byte as it is shown: itself, or \xNN.
-#[derive(Clone, Copy)]
-struct Escaped(u8);
-
-impl fmt::Display for Escaped {
-    ghost output = { λ e. Some (escaped e.0) };
-
-    #[tactic(auto, using(std::proofs::lemmas::Fmt::hex_byte))]
-    fn fmt<W: fmt::Write>(&self, f: &mut fmt::Formatter<W>) -> fmt::Result {
-        let byte = self.0;
-        if is_plain(byte) {
-            f.write_char(char::from(byte))
-        } else {
-            write!(f, "\\x{byte:02x}")
-        }
+fn hex_digit(digit: u8) -> u8
+    requires { digit < 16 }
+    ensures { result ≡ hex_digit digit }
+{
+    if digit < 10 {
+        b'0' + digit
+    } else {
+        b'a' - 10 + digit
     }
+}
+
+// Puts a byte as it is shown, itself or \xNN, at a place of the text, and answers where it ends.
+fn put_escaped(text: &mut [u8; 256], at: usize, byte: u8) -> usize
+    requires { at + 4 ≤ 256 }
+    ensures within { result ≤ at + 4 }
+    ensures text { take result text.new ≡ take at text.old ++ escaped byte }
+{
+    if is_plain(byte) {
+        text[at] = byte;
+        at + 1
+    } else {
+        let escape = [b'\\', b'x', hex_digit(byte / 16), hex_digit(byte % 16)];
+        text[at..at + 4].copy_from_slice(&escape);
+        at + 4
+    }
+}
+
+// Puts up to 64 bytes as they are shown, four at most for each, at the front of the text, and answers where they end.
+#[tactic(auto, using(crate::proofs::Showing::shown_more, crate::proofs::Showing::ascii_more))]
+fn put_shown(text: &mut [u8; 256], bytes: &[u8]) -> usize
+    requires { length bytes.now ≤ 64 }
+    ensures within { result ≤ 256 }
+    ensures text { take result text.new ≡ shown bytes.now }
+    ensures ascii { IsAscii (shown bytes.now) }
+{
+    let mut end = 0;
+    for byte in bytes {
+        end = put_escaped(text, end, *byte);
+    }
+    end
 }
 
 // The text of a note, byte by byte.
@@ -37,11 +62,12 @@ struct Shown<'a>(&'a [u8]);
 impl fmt::Display for Shown<'_> {
     ghost output = { λ s. Some (shown s.0.now) };
 
-    #[tactic(auto, using(std::proofs::lemmas::Grind::put_two, crate::proofs::Showing::shown_more))]
+    // A write for each 64 bytes: one for each byte takes three times as long. What is shown is ASCII, so that it is text.
     fn fmt<W: fmt::Write>(&self, f: &mut fmt::Formatter<W>) -> fmt::Result {
-        for byte in self.0 {
-            let byte = Escaped(*byte);
-            write!(f, "{byte}")?;
+        for bytes in self.0.chunks(64) {
+            let mut text = [0; 256];
+            let end = put_shown(&mut text, bytes);
+            f.write_str(str::from_utf8(&text[..end]).unwrap_or(""))?;
         }
         Ok(())
     }

@@ -4,7 +4,7 @@
 use listing::list::list_sheet;
 use sheet::sheets::UncheckedSheet;
 use std::io;
-use std::io::Read;
+use std::io::{Read, Write};
 
 fn main(rt: HostRuntime) -> io::Result<()> {
     let heap = rt.alloc();
@@ -13,5 +13,6 @@ fn main(rt: HostRuntime) -> io::Result<()> {
     let mut input = rt.stdin().take(32769);
     input.read_to_end(&mut bytes)?;
     let lines = list_sheet(heap, UncheckedSheet::new(bytes))?;
-    print!(rt; "{lines}")
+    // In one write: `print!` writes a text of this size in many.
+    rt.stdout().write_all(lines.as_bytes())
 }
