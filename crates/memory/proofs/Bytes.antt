@@ -11,7 +11,7 @@ use Rattle.std.proofs.lemmas.List.{places, get_or-take, get_or-drop}
 use Rattle.std.proofs.lemmas.Nat.{from_le_bytes-to_le_bytes_8}
 use Rattle.std.proofs.lemmas.Bool.{cases_lt}
 use Rattle.bedrock.specs.declared.words.Words.{Words}
-use Rattle.bedrock.specs.BlockWords.{words_of, words_in, bytes_of}
+use Rattle.bedrock.specs.BlockWords.{words_of, words_in}
 use Rattle.bedrock.proofs.Bytes.{chunk_byte, number_is}
 use Rattle.memory.specs.Blocks.{word_at, start_of, image_blocks, empty_blocks, written}
 use Rattle.memory.specs.Beyond.{zero_block, image_beyond}
@@ -38,12 +38,6 @@ block_same xs zs b h =
     λ p j l e. rw e (sym (get_or-take 16 (drop (16 * b) xs) j 0 l ∙ get_or-drop (16 * b) xs j 0)) in
     block_is zs ys b (λ p j l e. h p (omega arith) (omega arith) ∙ at p j l e) ∙ sym (block_is xs ys b at)
 
--- the words of two words' bytes
-words_back : (words : Words) → words.first < 2 ^ 64 → words.second < 2 ^ 64 → words_in (bytes_of words) ≡ words
-words_back words f s =
-    ap (λ w. words_of w (from_le_bytes w64 (to_le_bytes w64 words.second))) (from_le_bytes-to_le_bytes_8 words.first f)
-    ∙ ap (λ w. words_of words.first w) (from_le_bytes-to_le_bytes_8 words.second s)
-
 -- a read: by the chunk of a block, and past the last with zeros
 pub read_is : (xs : List ℕ) (cs : List (List ℕ)) (b : ℕ) (o : Option (Bor (List ℕ))) (z r : Words) → length xs ≡ 16384 → cs ≡ first_chunks 16 1024 xs → length cs ≡ 1024
     → MatchOption o (length cs ≤ b) (λ x. (b < length cs) × HoldsAt (λ y. x.now ≡ y) cs b) → (z.first ≡ 0) × (z.second ≡ 0) → MatchOption o (r ≡ z) (λ x. r ≡ words_in x.now) → r ≡ image_blocks xs b
@@ -52,37 +46,48 @@ read_is xs cs b (Some x) z r sized chunks count found none read =
     let same : x.now ≡ slice_index_or (first_chunks 16 1024 xs) b [] = found.1 [] ∙ ap (λ l. slice_index_or l b []) chunks in
     read ∙ ap words_in same ∙ sym (block_is xs _ b (λ p j l e. chunk_byte 16 1024 b xs [] p j (omega arith) l (omega arith)))
 
--- what a write of sixteen bytes leaves
-part_at : (xs ys : List ℕ) (p k j : ℕ) → k ≡ 16 → length ys ≡ 16 → p + 16 ≤ length xs → j < 16 → slice_index (put_mid p k xs ys) (p + j) ≡ slice_index ys j
+-- a word depends on its eight bytes alone
+pub word_same : (xs zs : List ℕ) (p : ℕ) → ((k : ℕ) → p ≤ k → k < p + 8 → slice_index xs k ≡ slice_index zs k) → word_at xs p ≡ word_at zs p
+word_same xs zs p h =
+    let ys = take 8 (drop p zs) in
+    let at : (j : ℕ) → j < 8 → slice_index zs (p + j) ≡ slice_index ys j = λ j l. sym (get_or-take 8 (drop p zs) j 0 l ∙ get_or-drop p zs j 0) in
+    word_is xs ys p (λ j l. h (p + j) (omega arith) (omega arith) ∙ at j l) ∙ sym (word_is zs ys p at)
+
+-- what a write of eight bytes leaves
+part_at : (xs ys : List ℕ) (p k j : ℕ) → k ≡ 8 → length ys ≡ 8 → p + 8 ≤ length xs → j < 8 → slice_index (put_mid p k xs ys) (p + j) ≡ slice_index ys j
 part_at xs ys p k j e l h i = search (rules, places)
 
-part_below : (xs ys : List ℕ) (p k i : ℕ) → p + 16 ≤ length xs → i < p → slice_index (put_mid p k xs ys) i ≡ slice_index xs i
+pub part_below : (xs ys : List ℕ) (p k i : ℕ) → p + 8 ≤ length xs → i < p → slice_index (put_mid p k xs ys) i ≡ slice_index xs i
 part_below xs ys p k i h l = search (rules, places)
 
-part_above : (xs ys : List ℕ) (p k i : ℕ) → k ≡ 16 → length ys ≡ 16 → p + 16 ≤ length xs → p + 16 ≤ i → slice_index (put_mid p k xs ys) i ≡ slice_index xs i
+pub part_above : (xs ys : List ℕ) (p k i : ℕ) → k ≡ 8 → length ys ≡ 8 → p + 8 ≤ length xs → p + 8 ≤ i → slice_index (put_mid p k xs ys) i ≡ slice_index xs i
 part_above xs ys p k i e l h b = search (rules, places)
+
+pub part_length : (xs ys : List ℕ) (p k : ℕ) → k ≡ 8 → length ys ≡ 8 → p + 8 ≤ length xs → length (put_mid p k xs ys) ≡ length xs
+part_length xs ys p k e l h = search (rules, places)
+
+pub word_part : (xs ys : List ℕ) (p k v : ℕ) → k ≡ 8 → ys ≡ to_le_bytes w64 v → v < 2 ^ 64 → p + 8 ≤ length xs → word_at (put_mid p k xs ys) p ≡ v
+word_part xs ys p k v e d f h =
+    word_is (put_mid p k xs ys) ys p (λ j l. part_at xs ys p k j e (ap length d) h l) ∙ ap (from_le_bytes w64) d ∙ from_le_bytes-to_le_bytes_8 v f
 
 pub image_empty : (n : ℕ) → image_blocks (replicate n 0) ≡ empty_blocks
 unfolding empty_blocks
 image_empty n = fun_ext (λ b. zero_block (replicate n 0) b (λ k l m. all_same {X = ℕ} n k 0))
 
--- a write of the bytes of two words over those of one block
-module _ (xs ys : List ℕ) (p k b : ℕ) (words : Words) (at : p ≡ 16 * b) (part : k ≡ 16) (bytes : ys ≡ bytes_of words)
-    (first : words.first < 2 ^ 64) (second : words.second < 2 ^ 64) (sized : length xs ≡ 16384) (inside : b < 1024) where
-  eight : length ys ≡ 16
-  eight = ap length bytes
+-- a write of one block
+module _ (xs ys : List ℕ) (b : ℕ) (words : Words)
+    (one : word_at ys (start_of b 0) ≡ words.first) (two : word_at ys (start_of b 1) ≡ words.second)
+    (below : (k : ℕ) → k < 16 * b → slice_index ys k ≡ slice_index xs k) (above : (k : ℕ) → 16 * b + 16 ≤ k → slice_index ys k ≡ slice_index xs k) where
+  here : image_blocks ys b ≡ words
+  unfolding image_blocks
+  here = ap (λ w. words_of w (word_at ys (start_of b 1))) one ∙ ap (λ w. words_of words.first w) two
 
-  here : image_blocks (put_mid p k xs ys) b ≡ words
-  here =
-      block_is (put_mid p k xs ys) ys b (λ q j l e. let f : q ≡ p + j = omega arith in rw f (part_at xs ys p k j part eight (omega arith) l))
-      ∙ ap words_in bytes ∙ words_back words first second
-
-  other : (c : ℕ) → c ≢ b → image_blocks (put_mid p k xs ys) c ≡ image_blocks xs c
-  other c ne =
+  other : (k : ℕ) → k ≢ b → image_blocks ys k ≡ image_blocks xs k
+  other k ne =
       ⊎_elim
-      (λ (l : c < b). block_same xs _ c (λ i m n. part_below xs ys p k i (omega arith) (omega arith)))
-      (λ l. block_same xs _ c (λ i m n. part_above xs ys p k i part eight (omega arith) (omega arith)))
-      (cases_lt c b)
+      (λ (l : k < b). block_same xs ys k (λ i m n. below i (omega arith)))
+      (λ l. block_same xs ys k (λ i m n. above i (omega arith)))
+      (cases_lt k b)
 
-  pub image_write : image_blocks (put_mid p k xs ys) ≡ written (image_blocks xs) b words
-  image_write = written_inside (image_blocks xs) (image_blocks (put_mid p k xs ys)) b words here other inside
+  pub image_write : b < 1024 → image_blocks ys ≡ written (image_blocks xs) b words
+  image_write lt = written_inside (image_blocks xs) (image_blocks ys) b words here other lt

@@ -1,5 +1,5 @@
-ghost use Rattle.std.specs.Prelude.{◌≡◌, length};
-ghost use Rattle.memory.specs.Blocks.{image_blocks};
+ghost use Rattle.std.specs.Prelude.{◌≡◌, ℕ, ◌+◌, ◌<◌, ◌≤◌, length, slice_index};
+ghost use Rattle.memory.specs.Blocks.{word_at, start_of, image_blocks};
 ghost use Rattle.memory.specs.Beyond.{image_beyond};
 
 use crate::Memory;
@@ -10,6 +10,25 @@ use bedrock::words::Words;
 pub struct ByteImage {
     bytes: [u8; 16384],
     ghost sized: { length bytes ≡ 16384 },
+}
+
+// The byte at which a word of a block starts.
+fn start(block: u16, word: u8) -> usize
+    ensures { result ≡ start_of block word }
+{
+    16 * block as usize + 8 * word as usize
+}
+
+impl ByteImage {
+    // Writes a word from a byte on; the bytes before and after it stay.
+    fn put(&mut self, at: usize, value: u64)
+        requires { at + 8 ≤ 16384 }
+        ensures here { word_at self.new.bytes at ≡ value }
+        ensures below { (k : ℕ) → k < at → slice_index self.new.bytes k ≡ slice_index self.old.bytes k }
+        ensures above { (k : ℕ) → at + 8 ≤ k → slice_index self.new.bytes k ≡ slice_index self.old.bytes k }
+    {
+        self.bytes[at..at + 8].copy_from_slice(&value.to_le_bytes());
+    }
 }
 
 impl Memory for ByteImage {
@@ -29,10 +48,11 @@ impl Memory for ByteImage {
     }
 
     fn write(&mut self, block: u16, words: Words) {
-        // By hand: of an array after `get_mut` no element is known, so the proof does not close.
+        // By hand: of an array after `get_mut` no element is known, so the proof does not close. Word by word, so that a word that
+        // goes astray is refused for its place.
         if block < 1024 {
-            let at = 16 * block as usize;
-            self.bytes[at..at + 16].copy_from_slice(&words.to_le_bytes());
+            self.put(start(block, 0), words.first);
+            self.put(start(block, 1), words.second);
         }
     }
 }
