@@ -1,21 +1,18 @@
 -- Words in bytes.
-use Rattle.std.specs.Prelude.{◌≡◌, ℕ, ◌+◌, ◌*◌, ◌^◌, ◌<◌, ◌≤◌, ◌≢◌, List, [], length, take, drop, replicate, slice_index, slice_index_or}
+use Rattle.std.specs.Prelude.{◌≡◌, ℕ, ◌+◌, ◌*◌, ◌^◌, ◌<◌, ◌≤◌, ◌≢◌, List, length, take, drop, replicate, slice_index}
 use Rattle.std.specs.Int.{w64, from_le_bytes, to_le_bytes}
-use Rattle.std.specs.Simd.{first_chunks}
 use Rattle.std.proofs.Math.Path.{ap, fun_ext}
-use Rattle.std.specs.List.{HoldsAt}
-use Rattle.std.specs.Option.{MatchOption}
-use Rattle.std.proofs.Common.{Some, None, Option, Bor, sym, ◌∙◌, ⊎_elim, arith, rules}
+use Rattle.std.proofs.Common.{sym, ◌∙◌, ⊎_elim, arith, rules}
 use borrow.Rule.Slice.PartMut.{put_mid}
 use Rattle.std.proofs.lemmas.List.{places, get_or-take, get_or-drop}
 use Rattle.std.proofs.lemmas.Nat.{from_le_bytes-to_le_bytes_8}
 use Rattle.std.proofs.lemmas.Bool.{cases_lt}
 use Rattle.bedrock.specs.declared.words.Words.{Words}
 use Rattle.bedrock.specs.BlockWords.{words_of, words_in}
-use Rattle.bedrock.proofs.Bytes.{chunk_byte, number_is}
+use Rattle.bedrock.proofs.Bytes.{number_is}
 use Rattle.memory.specs.Blocks.{word_at, start_of, image_blocks, empty_blocks, written}
-use Rattle.memory.specs.Beyond.{zero_block, image_beyond}
-use Rattle.memory.proofs.Writes.{all_same, default_is, written_inside}
+use Rattle.memory.specs.Beyond.{zero_block}
+use Rattle.memory.proofs.Writes.{all_same, written_inside}
 
 -- a word is what its eight bytes say
 word_is : (xs ys : List ℕ) (p : ℕ) → ((j : ℕ) → j < 8 → slice_index xs (p + j) ≡ slice_index ys j) → word_at xs p ≡ from_le_bytes w64 ys
@@ -37,14 +34,6 @@ block_same xs zs b h =
     let at : (p j : ℕ) → j < 16 → p ≡ 16 * b + j → slice_index xs p ≡ slice_index ys j =
     λ p j l e. rw e (sym (get_or-take 16 (drop (16 * b) xs) j 0 l ∙ get_or-drop (16 * b) xs j 0)) in
     block_is zs ys b (λ p j l e. h p (omega arith) (omega arith) ∙ at p j l e) ∙ sym (block_is xs ys b at)
-
--- a read: by the chunk of a block, and past the last with zeros
-pub read_is : (xs : List ℕ) (cs : List (List ℕ)) (b : ℕ) (o : Option (Bor (List ℕ))) (z r : Words) → length xs ≡ 16384 → cs ≡ first_chunks 16 1024 xs → length cs ≡ 1024
-    → MatchOption o (length cs ≤ b) (λ x. (b < length cs) × HoldsAt (λ y. x.now ≡ y) cs b) → (z.first ≡ 0) × (z.second ≡ 0) → MatchOption o (r ≡ z) (λ x. r ≡ words_in x.now) → r ≡ image_blocks xs b
-read_is xs cs b None z r sized chunks count found none read = read ∙ default_is z none ∙ sym (image_beyond xs sized b (omega arith))
-read_is xs cs b (Some x) z r sized chunks count found none read =
-    let same : x.now ≡ slice_index_or (first_chunks 16 1024 xs) b [] = found.1 [] ∙ ap (λ l. slice_index_or l b []) chunks in
-    read ∙ ap words_in same ∙ sym (block_is xs _ b (λ p j l e. chunk_byte 16 1024 b xs [] p j (omega arith) l (omega arith)))
 
 -- a word depends on its eight bytes alone
 pub word_same : (xs zs : List ℕ) (p : ℕ) → ((k : ℕ) → p ≤ k → k < p + 8 → slice_index xs k ≡ slice_index zs k) → word_at xs p ≡ word_at zs p

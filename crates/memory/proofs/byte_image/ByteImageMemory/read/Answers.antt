@@ -1,14 +1,16 @@
-use Rattle.std.proofs.Common.{◌≡◌, ◌/◌, length, ap, ◌∙◌, arith, rules}
-use Rattle.std.specs.Option.{MatchOption}
-use Rattle.std.specs.Simd.{first_chunks}
-use Rattle.bedrock.specs.BlockWords.{words_in}
-use Rattle.memory.proofs.Bytes.{read_is}
+use Rattle.std.proofs.Common.{sym, ap, ◌∙◌}
+use Rattle.bedrock.specs.BlockWords.{words_of}
+use Rattle.memory.specs.Blocks.{word_at, start_of, image_blocks}
+use Rattle.memory.specs.Beyond.{image_beyond}
+use Rattle.memory.proofs.Writes.{default_is}
 use Rattle.memory.proofs.byte_image.ByteImageMemory.read.Goals as goal
 
+pub returns-then-block-lt1024 : goal.returns-then-block-lt1024
+unfolding image_blocks
+returns-then-block-lt1024 c =
+    let bytes = c.args.self.now.bytes in
+    ap (λ w. words_of w c.word-then-block-lt1024.result) (c.word.ensures ∙ ap (word_at bytes) c.start.ensures)
+    ∙ ap (λ w. words_of (word_at bytes (start_of c.args.block 0)) w) (c.word-then-block-lt1024.ensures ∙ ap (word_at bytes) c.start-then-block-lt1024.ensures)
+
 pub returns : goal.returns
-returns c =
-    let m = c.args.self.now in
-    let chunks = c.as_chunks.ensures.front ∙ ap (λ n. first_chunks 16 (n / 16) m.bytes) m.sized in
-    let count : length c.as_chunks.result.0.now ≡ 1024 = omega arith in
-    let read : MatchOption c.get.result (c.map_or.result ≡ c.default.result) (λ x. c.map_or.result ≡ words_in x.now) = search rules in
-    read_is m.bytes _ c.args.block c.get.result c.default.result _ m.sized chunks count c.get.ensures.lookup.3 c.default.ensures read
+returns c = default_is c.default.result c.default.ensures ∙ sym (image_beyond c.args.self.now.bytes c.args.self.now.sized c.args.block c.if-block-lt1024.false)
