@@ -7,7 +7,8 @@ use bedrock::words::Words;
 
 // A memory as an image of 16,384 bytes. Each word takes eight bytes, low byte first.
 //
-// By hand, word by word: chunks and one copy of a block prove too, but no edit of them that misplaces one word or one byte is refused for that.
+// Word by word, by hand: chunks and one copy of a block prove too, but an edit of them that moves one byte of a word, or writes one word
+// into another block, is refused for its form and not for what it does.
 #[derive(Drop)]
 pub struct ByteImage {
     bytes: [u8; 16384],
@@ -70,6 +71,7 @@ impl Memory for ByteImage {
     }
 
     fn write(&mut self, block: u16, words: Words) {
+        // By hand: of an array after `get_mut` no element is known, so the proof does not close.
         if block < 1024 {
             self.put(start(block, 0), words.first);
             self.put(start(block, 1), words.second);
